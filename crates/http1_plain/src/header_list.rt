@@ -1,0 +1,137 @@
+ghost use Rattle.std.specs.Prelude.{◌≡◌, ◌≤◌, ◌++◌, ◌∷◌, [], length, take, drop, vec_len, position, IfOk, OnOk, OnErr, option_copied};
+ghost use Rattle.http1_grammar.specs.Headers.{get, get_all, is_named, insert, remove};
+ghost use Rattle.http1_plain.specs.Singles.{IsSingle};
+
+use crate::{FieldValue, Single};
+use http_header::HeaderName;
+use std::alloc::{AllocError, Global};
+use std::marker::Model;
+
+/// Headers in order. A contract sees the pairs of their names, in lower case, and values.
+#[derive(Drop)]
+pub struct HeaderList {
+    entries: Vec<(HeaderName, FieldValue)>,
+}
+
+impl Model for HeaderList {
+    ghost use Rattle.std.specs.Prelude.{ℕ, List};
+    ghost use Rattle.http1_grammar.specs.Headers.{Header};
+
+    ghost Value = { List Header };
+
+    ghost view = { λ h. h.entries.items };
+}
+
+// The place of the first header of the name.
+fn place_of(entries: &[(HeaderName, FieldValue)], name: &HeaderName) -> Option<usize>
+    ensures { result ≡ position (is_named name.now) entries.now }
+{
+    entries.iter().position(|entry| entry.0 == *name)
+}
+
+// From this place on, all headers of the name go.
+fn remove_from(entries: &mut Vec<(HeaderName, FieldValue)>, place: usize, name: &HeaderName)
+    requires { place ≤ vec_len entries.old }
+    ensures { entries.new.items
+        ≡ take place entries.old.items ++ remove (drop place entries.old.items) name.now }
+{
+    let mut at = entries.len();
+    while at > place {
+        at -= 1;
+        if entries[at].0 == *name {
+            let _ = entries.remove(at);
+        }
+    }
+}
+
+impl HeaderList {
+    /// No headers, which takes no memory.
+    pub fn new(alloc: Global) -> HeaderList
+        ensures { result ≡ [] }
+    {
+        HeaderList {
+            entries: Vec::new(alloc),
+        }
+    }
+
+    pub fn len(&self) -> usize
+        ensures { result ≡ length self.now }
+    {
+        self.entries.len()
+    }
+
+    pub fn entries(&self) -> &[(HeaderName, FieldValue)]
+        ensures { result.now ≡ self.now }
+    {
+        self.entries.as_slice()
+    }
+
+    /// The pair goes last, or nothing changes.
+    pub fn append(&mut self, name: HeaderName, value: FieldValue) -> Result<(), AllocError>
+        ensures ok { OnOk result (self.new ≡ self.old ++ (name, value) ∷ []) }
+        ensures err { OnErr result (self.new ≡ self.old) }
+    {
+        self.entries.push((name, value))?;
+        Ok(())
+    }
+
+    /// The value of the name, if it stands once.
+    pub fn single(&self, name: &[u8]) -> Single<'_>
+        ensures { IsSingle (get_all self.now name.now) result }
+    {
+        let mut found = Single::Missing;
+        for entry in &self.entries {
+            if entry.0.as_bytes() == name {
+                found = found.and(&entry.1);
+            }
+        }
+        found
+    }
+
+    /// The first value of the name.
+    pub fn get(&self, name: &HeaderName) -> Option<&FieldValue>
+        ensures { option_copied result ≡ get self.now name.now }
+    {
+        match place_of(&self.entries, name) {
+            Some(place) => Some(&self.entries[place].1),
+            None => None,
+        }
+    }
+
+    /// All headers of the name go.
+    pub fn remove(&mut self, name: &HeaderName)
+        ensures { self.new ≡ remove self.old name.now }
+    {
+        remove_from(&mut self.entries, 0, name);
+    }
+
+    /// The pair takes the place of the first of its name, and the others go. A new name goes last. Or nothing changes.
+    pub fn insert(&mut self, name: HeaderName, value: FieldValue) -> Result<(), AllocError>
+        ensures ok { OnOk result (self.new ≡ insert self.old name value) }
+        ensures err { OnErr result (self.new ≡ self.old) }
+    {
+        match place_of(&self.entries, &name) {
+            None => self.append(name, value),
+            Some(place) => {
+                remove_from(&mut self.entries, place + 1, &name);
+                self.entries[place] = (name, value);
+                Ok(())
+            }
+        }
+    }
+
+    pub fn allocator(&self) -> Global {
+        *self.entries.allocator()
+    }
+
+    /// An equal list.
+    pub fn copy(&self, alloc: Global) -> Result<HeaderList, AllocError>
+        ensures { IfOk result (λ copy. copy ≡ self.now) }
+    {
+        let mut list = HeaderList::new(alloc);
+        for (name, value) in &self.entries {
+            list.append(name.clone()?, value.copy()?)?;
+        }
+        Ok(list)
+    }
+}
