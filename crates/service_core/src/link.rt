@@ -1,7 +1,7 @@
 ghost use Rattle.std.specs.Prelude.{◌≡◌, ℕ, ◌<◌, List, Option, length};
 ghost use Rattle.futures.specs.Task.{IsArmed, Keeps};
 ghost use Rattle.futures.specs.Poll.{OnPending};
-ghost use Rattle.service_core.specs.Link.{FaultCount, Identity, ReadAnswer, WaitCount, WriteAnswer};
+ghost use Rattle.service_core.specs.Link.{FailsAtMost, FaultCount, Identity, ReadAnswer, WaitCount, WriteAnswer};
 
 use crate::Peer;
 use futures::task::{Context, Poll};
@@ -19,7 +19,7 @@ pub enum LinkFault {
 ///
 /// A link tells what it holds and what was written, or it does not: clauses on these bytes hold where it does.
 pub trait Link: Drop {
-    // Its name, its peer and all bytes that it hands over in its life. No call changes them.
+    // Its name, its peer, all bytes that it hands over in its life, and how many of its calls fail. No call changes them.
     ghost identity: { Self → Identity };
 
     // How many bytes were handed over.
@@ -68,4 +68,7 @@ pub trait Link: Drop {
         ensures read_waits { read_waits self.new ≡ read_waits self.old }
         ensures armed { OnPending result (IsArmed cx.new) }
         ensures kept { Keeps cx.old cx.new };
+
+    // No more of its calls have failed than it tells.
+    ghost few_faults: { (link : Self) → FailsAtMost (identity link) (read_faults link) (write_faults link) };
 }

@@ -1,0 +1,7 @@
+pub mod Creating
+pub mod Delivery
+pub mod Done
+pub mod Listener
+pub mod Memory
+pub mod Outcome
+pub mod Report

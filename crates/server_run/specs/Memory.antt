@@ -1,0 +1,13 @@
+-- What the objects in memory tell.
+use Rattle.std.specs.Prelude.{ℕ, List, [], ◌∷◌}
+use Rattle.server_run.specs.declared.memory_link.MemoryLink.{MemoryLink}
+use Rattle.server_run.specs.declared.listener_step.ListenerStep.{ListenerStep}
+use Rattle.server_run.specs.declared.listener_step.ListenerStep.TheVariants.{Give, NotYet, Skip, Fail}
+
+-- the links of these steps
+abbrev pub links : List ListenerStep → List MemoryLink
+links [] = []
+links (Give link ∷ steps) = link ∷ links steps
+links (NotYet ∷ steps) = links steps
+links (Skip ∷ steps) = links steps
+links (Fail ∷ steps) = links steps

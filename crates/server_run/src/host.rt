@@ -1,0 +1,34 @@
+//! What the server takes of the system.
+use std::fs::Files;
+use std::io::Input;
+use std::net::Net;
+use std::alloc::AllocGlobal;
+use std::random::RandomSource;
+use std::rt::Runtime;
+use std::sync::Wait;
+use std::thread::Threads;
+
+/// All that the server takes of the system. Every type that has the supertraits is a host, as `HostRuntime` and a `&` to it.
+pub trait Host: Runtime
+    + Files<File: Send, Dir: Send>
+    + Input<Reader: Send>
+    + AllocGlobal
+    + Threads
+    + Wait
+    + Net<Stream: Send, Listener: Send>
+    + RandomSource
+    + Send
+    + Sync {}
+
+impl<R> Host for R where
+    R: Runtime
+        + Files<File: Send, Dir: Send>
+        + Input<Reader: Send>
+        + AllocGlobal
+        + Threads
+        + Wait
+        + Net<Stream: Send, Listener: Send>
+        + RandomSource
+        + Send
+        + Sync
+{}

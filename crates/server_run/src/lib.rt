@@ -1,0 +1,34 @@
+//! The server: what it asks of the outside as traits, the accept loop, and objects in memory that meet the traits.
+#![tactic(auto)]
+
+mod accept;
+mod builder;
+mod done;
+mod drive;
+mod entry;
+mod host;
+mod keep_all;
+mod listener;
+mod listener_step;
+mod memory_link;
+mod memory_listener;
+mod outcome;
+mod report;
+mod serve_error;
+mod server;
+mod server_service_factory;
+
+pub use builder::{ServerBuilder, new};
+pub use done::Done;
+pub use entry::Entry;
+pub use host::Host;
+pub use keep_all::KeepAll;
+pub use listener::{Accepted, Listener};
+pub use listener_step::ListenerStep;
+pub use memory_link::MemoryLink;
+pub use memory_listener::MemoryListener;
+pub use outcome::Outcome;
+pub use report::{End, ListenerState, Report};
+pub use serve_error::ServeError;
+pub use server::Server;
+pub use server_service_factory::ServerServiceFactory;

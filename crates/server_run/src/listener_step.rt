@@ -1,0 +1,14 @@
+use crate::MemoryLink;
+
+/// What a `MemoryListener` answers once.
+#[derive(Debug, Drop)]
+pub enum ListenerStep {
+    /// This connection.
+    Give(MemoryLink),
+    /// None has come yet.
+    NotYet,
+    /// One connection failed.
+    Skip,
+    /// The listener failed.
+    Fail,
+}

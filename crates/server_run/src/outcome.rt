@@ -1,0 +1,34 @@
+ghost use Rattle.std.specs.Prelude.{◌≡◌};
+ghost use Rattle.server_run.specs.Outcome.{outcome_of};
+
+use service_core::How;
+
+/// What became of a connection.
+#[derive(Clone, Copy, Debug, PartialEq, Eq)]
+pub enum Outcome {
+    /// Its service served it to its end.
+    Served,
+    /// Its link could not be read.
+    ReadFault,
+    /// Its link could not be written.
+    WriteFault,
+    /// Another protocol took it over.
+    Upgraded,
+    /// Memory ran out while it was served.
+    Memory,
+}
+
+impl Outcome {
+    /// The outcome of a connection that its service ended so.
+    pub fn of(how: How) -> Outcome
+        ensures { result ≡ outcome_of how }
+    {
+        match how {
+            How::Served => Outcome::Served,
+            How::ReadFault => Outcome::ReadFault,
+            How::WriteFault => Outcome::WriteFault,
+            How::Upgraded => Outcome::Upgraded,
+            How::Memory => Outcome::Memory,
+        }
+    }
+}
