@@ -3,3 +3,5 @@ pub mod Lists
 pub mod Progress
 pub mod Reports
 pub mod Standing
+pub mod Fails
+pub mod Steps

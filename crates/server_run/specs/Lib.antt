@@ -5,3 +5,4 @@ pub mod Listener
 pub mod Memory
 pub mod Outcome
 pub mod Report
+pub mod Steps

@@ -11,12 +11,16 @@ mod keep_all;
 mod listener;
 mod listener_step;
 mod memory_link;
+#[cfg(test)]
+mod memory_link_tests;
 mod memory_listener;
 mod outcome;
+mod read_step;
 mod report;
 mod serve_error;
 mod server;
 mod server_service_factory;
+mod write_step;
 
 pub use builder::{ServerBuilder, new};
 pub use done::Done;
@@ -28,7 +32,9 @@ pub use listener_step::ListenerStep;
 pub use memory_link::MemoryLink;
 pub use memory_listener::MemoryListener;
 pub use outcome::Outcome;
+pub use read_step::ReadStep;
 pub use report::{End, ListenerState, Report};
 pub use serve_error::ServeError;
 pub use server::Server;
 pub use server_service_factory::ServerServiceFactory;
+pub use write_step::WriteStep;

@@ -1,7 +1,7 @@
 use crate::MemoryLink;
 
 /// What a `MemoryListener` answers once.
-#[derive(Debug, Drop)]
+#[derive(Drop)]
 pub enum ListenerStep {
     /// This connection.
     Give(MemoryLink),

@@ -7,7 +7,7 @@ use std::alloc::Global;
 use std::collections::VecDeque;
 
 /// A listener in memory, which goes through a list of steps and then ends.
-#[derive(Debug, Drop)]
+#[derive(Drop)]
 pub struct MemoryListener {
     steps: VecDeque<ListenerStep>,
     given: u64,
