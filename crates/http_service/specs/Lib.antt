@@ -1,0 +1,9 @@
+pub mod OneGet
+pub mod Requests
+pub mod Ending
+pub mod Progress
+pub mod Moves
+pub mod Steps
+pub mod Going
+pub mod Dispatching
+pub mod Connecting
