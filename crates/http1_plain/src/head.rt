@@ -39,7 +39,7 @@ fn headers_at(alloc: Global, text: &[u8], spans: &[HeaderSpan]) -> Result<Header
     let mut list = HeaderList::new(alloc);
     for span in spans {
         let name = name_of(alloc, span.name.of(text))?;
-        let value = FieldValue::copy_of(alloc, span.value.of(text))?;
+        let value = FieldValue::of_field_bytes(alloc, span.value.of(text))?;
         list.append(name, value)?;
     }
     Ok(list)

@@ -7,7 +7,7 @@ use http_header::HeaderName;
 use std::alloc::{AllocError, Global};
 use std::marker::Model;
 
-/// Headers in order. A contract sees the pairs of their names, in lower case, and values.
+/// Headers in order (RFC 9110, section 5.3). A contract sees the pairs of their names, in lower case, and values.
 #[derive(Drop)]
 pub struct HeaderList {
     entries: Vec<(HeaderName, FieldValue)>,
@@ -54,12 +54,14 @@ impl HeaderList {
         }
     }
 
+    /// How many headers there are.
     pub fn len(&self) -> usize
         ensures { result ≡ length self.now }
     {
         self.entries.len()
     }
 
+    /// The headers in order.
     pub fn entries(&self) -> &[(HeaderName, FieldValue)]
         ensures { result.now ≡ self.now }
     {
@@ -120,6 +122,7 @@ impl HeaderList {
         }
     }
 
+    /// Where its headers live.
     pub fn allocator(&self) -> Global {
         *self.entries.allocator()
     }

@@ -2,13 +2,13 @@
 ghost use Rattle.std.specs.Prelude.{◌<◌, ◌≤◌};
 
 use crate::{
-    FieldValue, HeaderList, HttpVersion, Limits, NextHead, Response, next_head, write_continue,
-    write_refusal, write_response,
+    FieldFault, FieldValue, Framing, HeaderList, HttpVersion, Limits, NextHead, Response, Single,
+    framing_of, next_head, write_continue, write_refusal, write_response,
 };
 use http::method::Method;
-use http_header::HeaderName;
+use http_header::{AGE, HOST, HeaderName, VARY};
 use service_core::Octets;
-use std::alloc::Global;
+use std::alloc::{AllocError, Global};
 use std::test::Fail;
 
 const LIMITS: (usize, usize) = (32_768, 1_048_576);
@@ -187,6 +187,115 @@ fn responses(rt: HostRuntime) -> Result<(), Fail> {
     assert_eq!(rt;
         out.as_bytes(),
         b"HTTP/1.1 204 No Content\r\nconnection: keep-alive\r\n\r\nHTTP/1.1 204 No Content\r\nconnection: close\r\n\r\nHTTP/1.1 205 Reset Content\r\ncontent-length: 0\r\n\r\nHTTP/1.1 999 \r\ncontent-length: 0\r\n\r\n".as_slice()
+    );
+    Ok(())
+}
+
+#[test]
+fn values_are_made_and_joined(rt: HostRuntime) -> Result<(), Fail> {
+    let alloc = rt.alloc();
+    assert_eq!(rt;
+        FieldValue::new(alloc, b"a\r\nb: c").err(),
+        Some(FieldFault::BadByte { place: 1 })
+    );
+    let mut value = FieldValue::empty(alloc);
+    assert_eq!(rt; value.as_bytes(), b"".as_slice());
+    value.push_field_bytes(b"Origin")?;
+    value.push_field_bytes(b", ")?;
+    let more = FieldValue::of_field_bytes(alloc, b"Accept")?;
+    value.push_value(&more)?;
+    assert_eq!(rt; value.as_bytes(), b"Origin, Accept".as_slice());
+    let whole = FieldValue::from_octets(Octets::of(alloc, b"Origin, Accept")?);
+    assert!(rt; value == whole && value == whole.copy()? && more == more.clone()?);
+    assert!(rt; more < value && value > more);
+    Ok(())
+}
+
+// The list's headers as lines.
+fn lines_of(alloc: Global, headers: &HeaderList) -> Result<Octets, AllocError> {
+    let mut lines = Octets::new(alloc);
+    for (name, value) in headers.entries() {
+        lines.push_all(name.as_bytes())?;
+        lines.push_all(b"=")?;
+        lines.push_all(value.as_bytes())?;
+        lines.push_all(b";")?;
+    }
+    Ok(lines)
+}
+
+#[test]
+fn a_list_is_edited(rt: HostRuntime) -> Result<(), Fail> {
+    let alloc = rt.alloc();
+    let mut list = HeaderList::new(alloc);
+    for (name, value) in [("Vary", "a"), ("Age", "1"), ("vary", "b"), ("VARY", "c")] {
+        list.append(
+            HeaderName::from_bytes(alloc, name.as_bytes())?,
+            FieldValue::new(alloc, value.as_bytes())?,
+        )?;
+    }
+    assert_eq!(rt; list.len(), 4);
+    let first = list.get(&VARY).map(|value| value.as_bytes());
+    assert_eq!(rt; first, Some(b"a".as_slice()));
+    assert!(rt; matches!(list.single(b"vary"), Single::Several));
+    assert!(rt; matches!(list.single(b"age"), Single::One(_)));
+    assert!(rt; matches!(list.single(b"host"), Single::Missing));
+    let whole = list.copy(list.allocator())?;
+    list.insert(VARY, FieldValue::new(alloc, b"Origin")?)?;
+    assert_eq!(rt;
+        lines_of(alloc, &list)?.as_bytes(),
+        b"vary=Origin;age=1;".as_slice()
+    );
+    list.insert(HOST, FieldValue::new(alloc, b"h")?)?;
+    list.remove(&AGE);
+    assert_eq!(rt;
+        lines_of(alloc, &list)?.as_bytes(),
+        b"vary=Origin;host=h;".as_slice()
+    );
+    assert_eq!(rt;
+        lines_of(alloc, &whole)?.as_bytes(),
+        b"vary=a;age=1;vary=b;vary=c;".as_slice()
+    );
+    Ok(())
+}
+
+#[test]
+fn a_response_is_changed(rt: HostRuntime) -> Result<(), Fail> {
+    let alloc = rt.alloc();
+    let mut response = Response::text(alloc, 404, "no such page")?;
+    response
+        .headers_mut()
+        .append(VARY, FieldValue::new(alloc, b"Origin")?)?;
+    assert_eq!(rt; response.status(), 404);
+    assert_eq!(rt; response.headers().len(), 1);
+    assert_eq!(rt; response.body(), b"no such page".as_slice());
+    let mut out = Octets::new(alloc);
+    write_response(&mut out, &Method::GET, HttpVersion::Http11, &response, true)?;
+    assert_eq!(rt;
+        out.as_bytes(),
+        b"HTTP/1.1 404 Not Found\r\nvary: Origin\r\ncontent-length: 12\r\nconnection: close\r\n\r\nno such page".as_slice()
+    );
+    Ok(())
+}
+
+#[test]
+fn framings(rt: HostRuntime) -> Result<(), Fail> {
+    let alloc = rt.alloc();
+    let limits = Limits::new(512, 9);
+    assert_eq!(rt; (limits.head(), limits.body()), (512, 9));
+    let row = |bytes: &[u8]| -> Result<Framing, Fail> {
+        Ok(match next_head(alloc, limits, bytes)? {
+            NextHead::Found(head, _) => framing_of(&head, 9),
+            _ => Framing::Faulty,
+        })
+    };
+    assert_eq!(rt; row(b"GET / HTTP/1.1\r\n\r\n")?, Framing::Empty);
+    assert_eq!(rt;
+        row(b"GET / HTTP/1.1\r\nContent-Length: 9\r\n\r\n")?,
+        Framing::Sized(9)
+    );
+    assert_eq!(rt;
+        row(b"GET / HTTP/1.1\r\nTransfer-Encoding: chunked\r\n\r\n")?,
+        Framing::Chunked
     );
     Ok(())
 }

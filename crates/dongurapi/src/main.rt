@@ -1,0 +1,54 @@
+//! Serves the connections of a script over links in memory, and prints a report.
+#![tactic(auto)]
+
+use server_program::{Streams, run, words_of};
+use service_core::Octets;
+use std::process::ExitCode;
+
+const HELP: &str = "\
+dongurapi serves connections over HTTP/1.1 under a policy on cross-origin requests.
+
+usage: dongurapi replay < SCRIPT
+       dongurapi --help | --version
+
+replay   reads a script of connections from standard input, serves each over a link in memory, and
+         prints what was written on it. Lines of a script: `listener`, `conn PEER` with PEER as
+         `10.0.0.1:5000` or `local`, and `give TEXT` with the escapes \\r \\n \\t \\\" \\\\ \\xHH; empty lines
+         and lines that begin with `#` are skipped.
+
+status   0 served; 2 the words are none of these; 3 a line of the script is not understood, or the
+         script is too long; 4 the script names no listener; 5 a read failed; 6 a write failed;
+         7 memory ran out
+";
+
+const VERSION: &str = "dongurapi 0.1.0\n";
+
+// The status of a text that is to be printed.
+fn print(rt: &HostRuntime, text: &str) -> u8 {
+    match server_program::write_all(&mut Streams::new(rt), text.as_bytes()) {
+        Ok(()) => 0,
+        Err(_) => 6,
+    }
+}
+
+// What the one word asks for beside the forms of `run`.
+fn asked(words: &[Octets]) -> Option<&'static str> {
+    match words {
+        [word] if word.as_bytes() == b"--help".as_slice() => Some(HELP),
+        [word] if word.as_bytes() == b"--version".as_slice() => Some(VERSION),
+        _ => None,
+    }
+}
+
+fn main(rt: HostRuntime) -> ExitCode {
+    let alloc = rt.alloc();
+    let Ok(words) = words_of(&rt, alloc) else {
+        return ExitCode::from(7);
+    };
+    if let Some(text) = asked(&words) {
+        return ExitCode::from(print(&rt, text));
+    }
+    let mut source = Streams::new(&rt);
+    let mut sink = Streams::new(&rt);
+    ExitCode::from(run(&rt, alloc, &words, &mut source, &mut sink))
+}

@@ -1,0 +1,12 @@
+pub mod Flow
+pub mod Lines
+pub mod Numbers
+pub mod OneLine
+pub mod OneWord
+pub mod Texts
+pub mod OneEntry
+pub mod Policing
+pub mod Telling
+pub mod Saying
+pub mod Standing
+pub mod Replays

@@ -1,0 +1,32 @@
+-- The handler `hello`, and what it answers under the default policy.
+use Rattle.std.specs.Prelude.{◌≡◌, ◌⊎◌, ℕ, false, List, [], ◌∷◌, Option, None, Result, Ok, Err, codes}
+use Rattle.http1_grammar.specs.Wire.{Response}
+use Rattle.http1_grammar.specs.Answers.{Request}
+use Rattle.service_core.specs.declared.peer.Peer.{Peer}
+use Rattle.cors_rules.specs.Origins.{Rules}
+use Rattle.cors_rules.specs.Policy.{strict}
+use Rattle.cors_rules.specs.Answers.{cors}
+use Rattle.cors_policy.specs.declared.rule.NoRule.{NoRule}
+use Rattle.server_program.specs.declared.handler_fault.HandlerFault.{HandlerFault}
+use Rattle.server_program.specs.declared.handler_fault.HandlerFault.TheVariants.{Memory}
+
+-- want of memory has no response
+abbrev pub no_response : HandlerFault → Option Response
+no_response fault = None
+
+-- 200, with a text
+abbrev pub hello_response : Response
+hello_response =
+    record { status = 200; headers = (codes "content-type", codes "text/plain") ∷ []; body = codes "Hello world!" }
+
+-- the response to each request, but for want of memory
+abbrev pub HelloGives : Result Response HandlerFault → Type 0
+HelloGives r = (r ≡ Ok hello_response) ⊎ (r ≡ Err Memory)
+
+-- there are no rules
+abbrev pub no_rules : Rules NoRule
+no_rules rule origin head = false
+
+-- `hello` under the policy that allows no origin
+abbrev pub hello_under_policy : Request Peer → Response
+hello_under_policy request = cors no_rules strict (λ (asked : Request Peer). hello_response) request

@@ -1,0 +1,11 @@
+pub mod Hello
+pub mod Plan
+pub mod Policed
+pub mod Replaying
+pub mod Report
+pub mod Script
+pub mod Serving
+pub mod Statuses
+pub mod Stream
+pub mod Text
+pub mod Words

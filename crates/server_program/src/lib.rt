@@ -1,0 +1,42 @@
+//! The program: a script of connections is read, served and reported.
+#![tactic(auto)]
+
+mod connection_factory;
+mod escapes;
+mod handler_fault;
+mod hello;
+mod line;
+mod memory_sink;
+mod memory_source;
+mod peer_text;
+mod program;
+mod reading;
+mod replay;
+mod replay_factory;
+mod report;
+mod script;
+mod sink;
+mod source;
+mod streams;
+#[cfg(test)]
+mod tests;
+mod text;
+mod words;
+mod writing;
+
+pub use connection_factory::ConnectionFactory;
+pub use handler_fault::HandlerFault;
+pub use hello::Hello;
+pub use line::{Line, read_line};
+pub use memory_sink::MemorySink;
+pub use memory_source::MemorySource;
+pub use program::run;
+pub use reading::{MAX_SCRIPT, ReadError, read_whole};
+pub use replay_factory::ReplayFactory;
+pub use report::report_text;
+pub use script::{Connection, Reading, Script, read_script};
+pub use sink::{Sink, SinkFault};
+pub use source::{Source, SourceFault};
+pub use streams::Streams;
+pub use words::{is_replay, words_of};
+pub use writing::write_all;

@@ -1,0 +1,69 @@
+//! What one line of a script says.
+ghost use Rattle.std.specs.Prelude.{◌≡◌, ◌<◌, IfOk, length};
+ghost use Rattle.std.specs.List.{list_all};
+ghost use Rattle.std.specs.Option.{option_map};
+ghost use Rattle.server_program.specs.Script.{is_plain, line_of, peer_of, text_bytes};
+ghost use Rattle.server_program.specs.declared.line.Line.TheVariants.{Conn, Give};
+
+use crate::escapes::unescaped;
+use crate::peer_text::read_peer;
+use service_core::{Octets, Peer};
+use std::alloc::{AllocError, Global};
+
+/// What a line of a script says.
+#[derive(Drop)]
+pub enum Line {
+    /// Nothing: it is empty, or a comment.
+    Skip,
+    /// There is a listener.
+    Listener,
+    /// A connection of this peer comes.
+    Conn(Peer),
+    /// The connection gives these bytes.
+    Give(Octets),
+}
+
+/// What a line says. None where it is not of the grammar.
+pub fn read_line(alloc: Global, line: &[u8]) -> Result<Option<Line>, AllocError>
+    ensures { IfOk result (λ said. said ≡ line_of line.now) }
+{
+    if !is_plain(line) {
+        return Ok(None);
+    }
+    if line.is_empty() || line.starts_with(b"#".as_slice()) {
+        return Ok(Some(Line::Skip));
+    }
+    if line == b"listener".as_slice() {
+        return Ok(Some(Line::Listener));
+    }
+    if line.starts_with(b"conn ".as_slice()) {
+        return Ok(read_conn(&line[5..]));
+    }
+    if line.starts_with(b"give ".as_slice()) && line.len() > 5 {
+        return read_give(alloc, &line[5..]);
+    }
+    Ok(None)
+}
+
+fn read_conn(text: &[u8]) -> Option<Line>
+    ensures { result ≡ option_map Conn (peer_of text.now) }
+{
+    let peer = read_peer(text)?;
+    Some(Line::Conn(peer))
+}
+
+fn read_give(alloc: Global, text: &[u8]) -> Result<Option<Line>, AllocError>
+    ensures { IfOk result (λ said. said ≡ option_map Give (text_bytes text.now)) }
+{
+    let Some(bytes) = unescaped(alloc, text)? else {
+        return Ok(None);
+    };
+    Ok(Some(Line::Give(bytes)))
+}
+
+/// Whether each byte can stand in a line.
+fn is_plain(line: &[u8]) -> bool
+    ensures { result ≡ list_all is_plain line.now }
+{
+    line.iter().all(|b| 32 <= *b && *b <= 126)
+}

@@ -1,0 +1,121 @@
+//! A script, and what it asks for.
+ghost use Rattle.std.specs.Prelude.{◌≡◌, ◌==◌, ◌<◌, ◌+◌, ℕ, List, [], length, IfOk, Option};
+ghost use Rattle.std.specs.List.{slice_split};
+ghost use Rattle.std.specs.Option.{option_map};
+ghost use Rattle.server_program.specs.Script.{with_listener, with_connection, with_bytes, with_line, after_line, plan_of};
+ghost use Rattle.server_program.specs.Plan.{plan, reading_of};
+
+use crate::line::{Line, read_line};
+use service_core::{Octets, Peer};
+use std::alloc::{AllocError, Global};
+
+/// What a script asks for.
+#[derive(Drop)]
+pub struct Script {
+    /// There is a listener.
+    pub listening: bool,
+    /// The connection that comes to it.
+    pub connection: Option<Connection>,
+}
+
+/// A connection of a script.
+#[derive(Drop)]
+pub struct Connection {
+    pub peer: Peer,
+    /// The bytes that it gives.
+    pub held: Octets,
+}
+
+/// What a script was read as.
+#[derive(Drop)]
+pub enum Reading {
+    Good(Script),
+    /// The number of the first bad line, counted from 1.
+    BadLine(usize),
+}
+
+/// The plan of a script, or its first bad line.
+pub fn read_script(alloc: Global, bytes: &[u8]) -> Result<Reading, AllocError>
+    ensures { IfOk result (λ reading. reading_of reading ≡ plan_of bytes.now) }
+{
+    let mut script = Script {
+        listening: false,
+        connection: None,
+    };
+    let mut number = 1;
+    for line in bytes.split(|b| *b == b'\n') {
+        let Some(next) = after_line(alloc, script, line)? else {
+            return Ok(Reading::BadLine(number));
+        };
+        script = next;
+        number += 1;
+    }
+    Ok(Reading::Good(script))
+}
+
+fn after_line(alloc: Global, script: Script, line: &[u8]) -> Result<Option<Script>, AllocError>
+    ensures { IfOk result (λ next. option_map plan next ≡ after_line (plan script) line.now) }
+{
+    let Some(said) = read_line(alloc, line)? else {
+        return Ok(None);
+    };
+    script.with_line(alloc, said)
+}
+
+impl Script {
+    /// The script with what one more line says. None where the line cannot stand there.
+    pub fn with_line(self, alloc: Global, said: Line) -> Result<Option<Script>, AllocError>
+        ensures { IfOk result (λ next. option_map plan next ≡ with_line (plan self) said) }
+    {
+        match said {
+            Line::Skip => Ok(Some(self)),
+            Line::Listener => Ok(self.with_listener()),
+            Line::Conn(peer) => Ok(self.with_connection(alloc, peer)),
+            Line::Give(bytes) => self.with_bytes(&bytes),
+        }
+    }
+
+    fn with_listener(self) -> Option<Script>
+        ensures { option_map plan result ≡ with_listener (plan self) }
+    {
+        if self.listening {
+            return None;
+        }
+        Some(Script {
+            listening: true,
+            connection: self.connection,
+        })
+    }
+
+    fn with_connection(self, alloc: Global, peer: Peer) -> Option<Script>
+        ensures { option_map plan result ≡ with_connection (plan self) peer }
+    {
+        if !self.listening || self.connection.is_some() {
+            return None;
+        }
+        Some(Script {
+            listening: true,
+            connection: Some(Connection {
+                peer,
+                held: Octets::new(alloc),
+            }),
+        })
+    }
+
+    fn with_bytes(self, bytes: &Octets) -> Result<Option<Script>, AllocError>
+        ensures { IfOk result (λ next. option_map plan next ≡ with_bytes (plan self) bytes.now) }
+    {
+        let Script {
+            listening,
+            connection,
+        } = self;
+        let Some(mut connection) = connection else {
+            return Ok(None);
+        };
+        connection.held.push_all(bytes.as_bytes())?;
+        Ok(Some(Script {
+            listening,
+            connection: Some(connection),
+        }))
+    }
+}
