@@ -13,7 +13,7 @@ use cors_rules::{AllOrSome, CorsError};
 use http_header::{ACCESS_CONTROL_REQUEST_HEADERS, ACCESS_CONTROL_REQUEST_METHOD};
 use http1_plain::{FieldValue, RequestHead};
 
-/// OPTIONS, with a method that is a token.
+/// Whether a request is a preflight: OPTIONS, with a method that is a token.
 #[tactic(auto, unfolding(cors_rules::specs::Requested::is_preflight))]
 pub fn is_request_preflight(head: &RequestHead) -> bool
     ensures { result ≡ is_preflight (view head.now) }

@@ -1,7 +1,7 @@
 //! Serves the connections of a script over links in memory, and prints a report.
 #![tactic(auto)]
 
-use server_program::{Streams, run, words_of};
+use server_program::{Streams, run, words_of, write_all};
 use service_core::Octets;
 use std::process::ExitCode;
 
@@ -23,10 +23,12 @@ status   0 served; 2 the words are none of these; 3 a line of the script is not 
 
 const VERSION: &str = "dongurapi 0.1.0\n";
 
-// The status of a text that is to be printed.
-fn print(rt: &HostRuntime, text: &str) -> u8 {
-    match server_program::write_all(&mut Streams::new(rt), text.as_bytes()) {
-        Ok(()) => 0,
+const OUT_OF_MEMORY: &str = "out of memory\n";
+
+// Prints a text. The status is the one given, or that of a write that failed.
+fn print(rt: &HostRuntime, text: &str, status: u8) -> u8 {
+    match write_all(&mut Streams::new(rt), text.as_bytes()) {
+        Ok(()) => status,
         Err(_) => 6,
     }
 }
@@ -43,10 +45,10 @@ fn asked(words: &[Octets]) -> Option<&'static str> {
 fn main(rt: HostRuntime) -> ExitCode {
     let alloc = rt.alloc();
     let Ok(words) = words_of(&rt, alloc) else {
-        return ExitCode::from(7);
+        return ExitCode::from(print(&rt, OUT_OF_MEMORY, 7));
     };
     if let Some(text) = asked(&words) {
-        return ExitCode::from(print(&rt, text));
+        return ExitCode::from(print(&rt, text, 0));
     }
     let mut source = Streams::new(&rt);
     let mut sink = Streams::new(&rt);

@@ -61,7 +61,6 @@ module _ (g : LinkOf MemoryLink) (peer : Peer) (held : List ℕ) where
   module _ (writes : (link : MemoryLink) → g.written link ≡ Some link.written)
       (few : (link : MemoryLink) → FailsAtMost (g.identity link) (g.read_faults link) (g.write_faults link))
       (link back : MemoryLink) (fresh : IsFresh g peer held link) where
-
     few_back : g.identity back ≡ g.identity link → (g.read_faults back ≤ 0) × (g.write_faults back ≤ 0)
     few_back same = subst (λ (i : Identity). FailsAtMost i (g.read_faults back) (g.write_faults back)) (same ∙ fresh.identity) (few back)
 
@@ -78,14 +77,14 @@ module _ (g : LinkOf MemoryLink) (peer : Peer) (held : List ℕ) where
     by_how : (h : How) → ServesScript g link (record { link = back; how = h }) → IsWhole back (outcome_of h) ⊎ IsShort back (outcome_of h)
     by_how how.Served ends =
         let told = subst (λ (i : Identity). IfSome i.held (λ all. Grew (g.written link) (g.written back) (served default_limits i.peer hello_under_policy (drop (g.taken link) all)).0))
-          fresh.identity (ends.wrote hello_under_policy refl).wrote in
+        fresh.identity (ends.wrote hello_under_policy refl).wrote in
         inl (refl, whole _ (subst (λ (t : ℕ). Grew (g.written link) (g.written back) (answers_of peer (drop t held)).0) fresh.taken told))
     by_how how.ReadFault ends = absurd (none_rose _ _ 0 ends.faults (few_back ends.same).0 refl)
     by_how how.WriteFault ends = absurd (none_rose _ _ 0 ends.faults (few_back ends.same).1 refl)
     by_how how.Upgraded ends = absurd ends.faults
     by_how how.Memory ends =
         let told = subst (λ (i : Identity). IfSome i.held (λ all. GrewByPrefix (g.written link) (g.written back) (served default_limits i.peer hello_under_policy (drop (g.taken link) all)).0))
-          fresh.identity (ends.wrote hello_under_policy refl) in
+        fresh.identity (ends.wrote hello_under_policy refl) in
         inr (short (subst (λ (t : ℕ). GrewByPrefix (g.written link) (g.written back) (answers_of peer (drop t held)).0) fresh.taken told))
 
     pub by_outcome : (out : Outcome) → ComesBack (ServesScript g) (LeavesScript g) link back out → IsWhole back out ⊎ IsShort back out
@@ -124,7 +123,6 @@ module _ (g : LinkOf MemoryLink) (writes : (link : MemoryLink) → g.written lin
     (delivers : Delivers given_of left_of g.identity (λ token. ServesScript g) (λ token. LeavesScript g) (old ∷ []) (n ∷ []) entries)
     (told : Tells ended_of (n ∷ []) report) (state : ListenerState) (states : report.listeners.items ≡ state ∷ [])
     (printed : text ≡ report_of entries report) where
-
   abbrev ends : List ℕ
   ends = state_line 0 state ++ end_line report.end
 
@@ -183,7 +181,6 @@ module _ (g : LinkOf MemoryLink) (writes : (link : MemoryLink) → g.written lin
     (delivers : Delivers given_of left_of g.identity (λ token. ServesScript g) (λ token. LeavesScript g) (old ∷ []) (n ∷ []) entries)
     (told : Tells ended_of (n ∷ []) report) (state : ListenerState) (states : report.listeners.items ≡ state ∷ [])
     (printed : text ≡ report_of entries report) where
-
   abbrev served_by : Entry MemoryLink → Type 0
   served_by e = IsServedFrom g.identity (λ token. ServesScript g) (λ token. LeavesScript g) (left_at left_of (old ∷ []) e.token) e
 
@@ -207,9 +204,9 @@ module _ (g : LinkOf MemoryLink) (writes : (link : MemoryLink) → g.written lin
       elim (one first) [
         | inl nothing ↦ all_told' (ap (flat_map entry_line) nothing.0 ∙ sym (ap connection_lines is))
         | inr some ↦
-          let served = All-head served_by some.0 [] (subst (All served_by) some.1 delivers.links) in
-          let at = placed some.0 served some.2 in
-          let at' = subst (λ (ls : List MemoryLink). slice_get ls some.0.place ≡ Some served.link) none at in cc
+            let served = All-head served_by some.0 [] (subst (All served_by) some.1 delivers.links) in
+            let at = placed some.0 served some.2 in
+            let at' = subst (λ (ls : List MemoryLink). slice_get ls some.0.place ≡ Some served.link) none at in cc
       ]
 
   module _ (peer : Peer) (held : List ℕ) (link : MemoryLink) (is : plan.connection ≡ Some (peer, held)) (offered : links old.steps.items ≡ link ∷ []) (fresh : IsFresh g peer held link) where
@@ -232,25 +229,25 @@ module _ (g : LinkOf MemoryLink) (writes : (link : MemoryLink) → g.written lin
         elim (by_outcome g peer held writes few link e.link fresh e.outcome back) [
           | inl whole ↦ all_told' (line_is e alone token place outcome.Served (answers_of peer held).0 whole.0 whole.1 ∙ sym (ap connection_lines is))
           | inr short ↦
-            let cut : IsCutShort plan.connection (line_of 0 0 outcome.Memory e.link.written) = record {
-              peer = peer;
-              held = held;
-              is = is;
-              front = e.link.written;
-              back = short.rest;
-              answers = short.answers;
-              line = refl;
-            } in
-            shows' _ (line_is e alone token place outcome.Memory e.link.written short.memory refl) (inr (inr cut)) (inr cut)
+              let cut : IsCutShort plan.connection (line_of 0 0 outcome.Memory e.link.written) = record {
+                peer = peer;
+                held = held;
+                is = is;
+                front = e.link.written;
+                back = short.rest;
+                answers = short.answers;
+                line = refl;
+              } in
+              shows' _ (line_is e alone token place outcome.Memory e.link.written short.memory refl) (inr (inr cut)) (inr cut)
         ]
 
     of_some : IsReportOf plan text
     of_some = elim (one first_of) [
       | inl nothing ↦ elim (end_cases report.end) [
         | inl drained ↦
-          let left = none_left g writes few plan text entries report old n delivers told state states printed drained in
-          let remains : links n.steps.items ≡ drop (rise given_of (old ∷ []) (n ∷ []) 0) (links old.steps.items) = same_Some _ _ (delivers.remains 0) in
-          let still = subst (λ (r : ℕ). links n.steps.items ≡ drop r (links old.steps.items)) nothing.1 remains in cc
+            let left = none_left g writes few plan text entries report old n delivers told state states printed drained in
+            let remains : links n.steps.items ≡ drop (rise given_of (old ∷ []) (n ∷ []) 0) (links old.steps.items) = same_Some _ _ (delivers.remains 0) in
+            let still = subst (λ (r : ℕ). links n.steps.items ≡ drop r (links old.steps.items)) nothing.1 remains in cc
         | inr room ↦ shows' [] (ap (flat_map entry_line) nothing.0) (inl refl) (inl room)
       ]
       | inr some ↦ of_entry some.0 some.1 some.2 some.3

@@ -10,6 +10,8 @@ mod memory_sink;
 mod memory_source;
 mod peer_text;
 mod program;
+#[cfg(test)]
+mod program_tests;
 mod reading;
 mod replay;
 mod replay_factory;

@@ -22,17 +22,24 @@ pub(crate) fn replay<Ho: Host>(rt: &Ho, alloc: Global, script: Script) -> Result
     match server.serve(rt, alloc, &mut listeners, &mut done) {
         Ok(report) => report_text(alloc, done.entries(), &report),
         Err(ServeError::Memory) => Err(AllocError),
-        Err(ServeError::Startup { error: CorsInitError::Memory, .. }) => Err(AllocError),
-        Err(ServeError::Startup { error: CorsInitError::Config(_), .. }) => unreachable!(),
+        Err(
+            ServeError::Startup {
+                error: CorsInitError::Memory,
+                ..
+            },
+        ) => Err(AllocError),
+        Err(
+            ServeError::Startup {
+                error: CorsInitError::Config(_),
+                ..
+            },
+        ) => unreachable!(),
         Err(ServeError::NoListener) => unreachable!(),
     }
 }
 
 // The listener that gives the connection, if there is one.
-fn listener_of(
-    alloc: Global,
-    connection: Option<Connection>,
-) -> Result<MemoryListener, AllocError>
+fn listener_of(alloc: Global, connection: Option<Connection>) -> Result<MemoryListener, AllocError>
     ensures { IfOk result (λ listener. Offers ⟦<MemoryLink as Link>⟧ listener (planned connection)) }
 {
     let mut steps = Vec::new(alloc);

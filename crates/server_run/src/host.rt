@@ -1,8 +1,8 @@
 //! What the server takes of the system.
+use std::alloc::AllocGlobal;
 use std::fs::Files;
 use std::io::Input;
 use std::net::Net;
-use std::alloc::AllocGlobal;
 use std::random::RandomSource;
 use std::rt::Runtime;
 use std::sync::Wait;
@@ -20,7 +20,8 @@ pub trait Host: Runtime
     + Send
     + Sync {}
 
-impl<R> Host for R where
+impl<R> Host for R
+where
     R: Runtime
         + Files<File: Send, Dir: Send>
         + Input<Reader: Send>
@@ -30,5 +31,5 @@ impl<R> Host for R where
         + Net<Stream: Send, Listener: Send>
         + RandomSource
         + Send
-        + Sync
+        + Sync,
 {}

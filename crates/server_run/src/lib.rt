@@ -20,6 +20,8 @@ mod report;
 mod serve_error;
 mod server;
 mod server_service_factory;
+#[cfg(test)]
+mod tests;
 mod write_step;
 
 pub use builder::{ServerBuilder, new};

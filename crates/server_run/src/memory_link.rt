@@ -237,6 +237,7 @@ impl Link for MemoryLink {
     }
 
     ghost few_faults = { λ link. (
-        le_trans link.failed_reads (sum_by-take-le _ link.reads.items link.step),
-        le_trans link.failed_writes (sum_by-take-le _ link.writes.items link.write_step)) };
+      le_trans link.failed_reads (sum_by-take-le _ link.reads.items link.step),
+      le_trans link.failed_writes (sum_by-take-le _ link.writes.items link.write_step),
+    ) };
 }

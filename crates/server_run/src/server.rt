@@ -8,7 +8,9 @@ ghost use Rattle.server_run.specs.declared.entry.Entry.{Entry};
 
 use crate::accept::{drain, make_service};
 use crate::drive::queue_of_one;
-use crate::{Done, Host, ListenerState, Listener, Report, ServeError, ServerBuilder, ServerServiceFactory};
+use crate::{
+    Done, Host, Listener, ListenerState, Report, ServeError, ServerBuilder, ServerServiceFactory,
+};
 use service_core::ServiceFactory;
 use std::alloc::{AllocError, Global};
 

@@ -9,12 +9,13 @@ use std::alloc::{AllocError, Global};
 /// Makes, for a listener's token, the factory of the services of its connections (`actix-server`'s `ServerServiceFactory`).
 pub trait ServerServiceFactory<L: Link>: Drop {
     type Factory: ServiceFactory<
-            L,
-            Response = Ended<L>,
-            Error: Drop,
-            Config = (),
-            Service: Service<L, Future: LinkHolder<L>> + Drop,
-        > + Drop;
+        L,
+        Response = Ended<L>,
+        Error: Drop,
+        Config = (),
+        Service: Service<L, Future: LinkHolder<L>> + Drop,
+    >
+        + Drop;
 
     // Holds of each end that a service of the token may give to the link as it was given.
     ghost may_serve: { Self → ℕ → L → Ended L → Type 0 };

@@ -6,4 +6,4 @@ use Rattle.server_program.proofs.program.answer_script.Goals as goal
 pub returns-in_ok-text-in-BadLine : goal.returns-in_ok-text-in-BadLine
 returns-in_ok-text-in-BadLine g c =
     bad_says _ _ _ _ c.made.ensures.status (sym c.in_ok-number.ensures ∙ ap reading_of c.in-BadLine.is)
-      (c.made.ensures.text ∙ c.from_vec.ensures ∙ ap (λ v. v.items) c.into_bytes.ensures.value ∙ c.in_ok-text-in-BadLine.ensures.ok)
+    (c.made.ensures.text ∙ c.from_vec.ensures ∙ ap (λ v. v.items) c.into_bytes.ensures.value ∙ c.in_ok-text-in-BadLine.ensures.ok)

@@ -15,9 +15,9 @@ loop-preserved-in-Got g c =
     let was : slice_get c.loop.listeners.items c.loop.token ≡ Some c.index_mut.result.now = slice_get_read _ _ _ _ refl inside c.index_mut.ensures.value in
     let back = comes_back _ _ _ _ _ _ _ c.serve_link-finished.result c.requires.stands c.serve_link-finished.ensures in
     let same = same_link g.Li.Link.Link.identity (g.F.ServerServiceFactory.may_serve c.args.factory.now 0) (g.F.ServerServiceFactory.may_leave c.args.factory.now 0)
-      c.in-Got.link c.serve_link-finished.result.link c.serve_link-finished.result.outcome
-      (g.met.F.ServerServiceFactory.same_served c.args.factory.now 0 c.in-Got.link) (g.met.F.ServerServiceFactory.same_left c.args.factory.now 0 c.in-Got.link) back in
+    c.in-Got.link c.serve_link-finished.result.link c.serve_link-finished.result.outcome
+    (g.met.F.ServerServiceFactory.same_served c.args.factory.now 0 c.in-Got.link) (g.met.F.ServerServiceFactory.same_left c.args.factory.now 0 c.in-Got.link) back in
     let here = subst (λ t. ComesBack (g.F.ServerServiceFactory.may_serve c.args.factory.now t) (g.F.ServerServiceFactory.may_leave c.args.factory.now t)
-      c.in-Got.link c.serve_link-finished.result.link c.serve_link-finished.result.outcome) (sym first) back in
+    c.in-Got.link c.serve_link-finished.result.link c.serve_link-finished.result.outcome) (sym first) back in
     progress_got _ _ _ _ _ _ _ _ _ _ _ _ _ _ _ _ _ _ _ c.loop.invariant was inside c.make_room.ensures.same
-      _ c.in-Got.link _ c.take.ensures.entry c.in-Got.ensures.link.0 c.in-Got.ensures.link.1 c.in-Got.ensures.small refl refl refl same here
+    _ c.in-Got.link _ c.take.ensures.entry c.in-Got.ensures.link.0 c.in-Got.ensures.link.1 c.in-Got.ensures.small refl refl refl same here

@@ -1,0 +1,37 @@
+#!/usr/bin/env bash
+# The program as a newcomer starts it: the examples, the help and the version, words that are no form, and a script
+# that is not understood. Each must print what stands here and end with its status.
+set -u
+top=$(cd "$(dirname "${BASH_SOURCE[0]}")/.." && pwd)
+passed=0
+failed=0
+
+# What is shown, the status and the text that are wanted, the input, and the words.
+check() {
+    local shown=$1 status=$2 wanted=$3 input=$4 got ended=0
+    shift 4
+    got=$("$top/dongurapi" "$@" < "$input" 2> /dev/null) || ended=$?
+    if [ "$ended" = "$status" ] && [ "$got" = "$wanted" ]; then
+        passed=$((passed + 1))
+    else
+        failed=$((failed + 1))
+        printf 'failed: %s: status %s, %s\n' "$shown" "$ended" "$got"
+    fi
+}
+
+"$top/dongurapi" --version > /dev/null || exit 1
+whole=$(cat "$top/crates/dongurapi/stdout")
+check "a browser's GET" 0 "$whole" "$top/examples/one-get.script" replay
+check "a GET in pieces" 0 "$whole" "$top/examples/browser.script" replay
+check "two GETs" 0 "$(cat "$top/examples/two-gets.report")" "$top/examples/two-gets.script" replay
+check "the version" 0 "dongurapi 0.1.0" /dev/null --version
+check "words that are no form" 2 "usage: replay | listen ADDR N | generate N K" /dev/null replay now
+check "no words" 2 "usage: replay | listen ADDR N | generate N K" /dev/null
+check "an empty script" 4 "startup refused: no listener" /dev/null replay
+check "no script" 3 "script line 3 is not understood" "$top/README.md" replay
+case $("$top/dongurapi" --help) in
+    *"usage: dongurapi replay"*"7 memory ran out") passed=$((passed + 1)) ;;
+    *) failed=$((failed + 1)) && echo "failed: the help" ;;
+esac
+echo "$passed passed, $failed failed"
+[ "$failed" = 0 ]
