@@ -1,6 +1,9 @@
 //! Serves the connections of a script over links in memory, and prints a report.
 #![tactic(auto)]
 
+ghost use Rattle.std.specs.Prelude.{◌≡◌, None};
+ghost use Rattle.server_program.specs.Words.{IsReplay};
+
 use server_program::{Streams, run, words_of, write_all};
 use service_core::Octets;
 use std::process::ExitCode;
@@ -33,8 +36,10 @@ fn print(rt: &HostRuntime, text: &str, status: u8) -> u8 {
     }
 }
 
-// What the one word asks for beside the forms of `run`.
-fn asked(words: &[Octets]) -> Option<&'static str> {
+// What the one word asks for beside the forms of `run`, which it leaves alone.
+fn asked(words: &[Octets]) -> Option<&'static str>
+    ensures { IsReplay words.now → result ≡ None }
+{
     match words {
         [word] if word.as_bytes() == b"--help".as_slice() => Some(HELP),
         [word] if word.as_bytes() == b"--version".as_slice() => Some(VERSION),

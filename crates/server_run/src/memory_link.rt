@@ -41,7 +41,8 @@ pub struct MemoryLink {
 }
 
 impl MemoryLink {
-    /// Takes no memory.
+    /// A link that nothing was done with, which takes no memory. Its reads hand over fewer than 2^64 bytes together, and
+    /// each `Take` of its writes takes one byte or more.
     pub fn new(
         alloc: Global,
         name: u64,
@@ -75,12 +76,14 @@ impl MemoryLink {
         }
     }
 
+    /// The name that it was given.
     pub fn name(&self) -> u64
         ensures { Some result ≡ (⟦<MemoryLink as Link>⟧.identity self.now).name }
     {
         self.name
     }
 
+    /// All bytes that were written.
     pub fn written(&self) -> &[u8]
         ensures { Some result.now ≡ ⟦<MemoryLink as Link>⟧.written self.now }
     {
