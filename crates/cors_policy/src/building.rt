@@ -1,11 +1,11 @@
 //! The texts that a builder takes.
-ghost use Rattle.std.specs.Prelude.{◌≡◌, None, true, IfOk, OnOk};
+ghost use Rattle.std.specs.Prelude.{◌≡◌, true, IfOk, OnOk};
 ghost use Rattle.std.specs.List.{list_all};
 ghost use Rattle.http_header.specs.Token.{is_token_byte, lowercase};
 ghost use Rattle.http1_plain.specs.Fields.{is_field_byte};
 ghost use Rattle.cors_rules.specs.Building.{and_text, is_origin_byte, nine_methods};
 ghost use Rattle.cors_rules.specs.Sets.{with};
-ghost use Rattle.cors_policy.specs.Uris.{Judges};
+ghost use Rattle.cors_rules.specs.Uris.{is_uri};
 
 use crate::text_set::TextSet;
 use crate::values::literal;
@@ -98,8 +98,9 @@ pub(crate) fn nine_methods(alloc: Global) -> Result<TextSet, AllocError>
 }
 
 // Whether the text is a URI (RFC 3986).
+#[tactic(auto, using(crate::proofs::UriSteps::spelled, crate::proofs::UriSteps::spells_none))]
 pub(crate) fn is_uri(alloc: Global, text: &str) -> Result<bool, AllocError>
-    ensures { IfOk result (λ b. Judges None text.now b) }
+    ensures { IfOk result (λ b. b ≡ is_uri text.now) }
 {
     match Uri::from_str(alloc, text) {
         Ok(_) => Ok(true),

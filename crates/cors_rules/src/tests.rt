@@ -1,5 +1,8 @@
 //! Errors in words, and sets.
-use crate::laws::{credentials_have_no_wildcard, grants_stand_alone, requests_with_no_origin_pass};
+use crate::laws::{
+    credentials_have_no_wildcard, equality_is_an_equivalence, grants_stand_alone,
+    requests_with_no_origin_pass, uris_are_those_of_http_uri,
+};
 use crate::{AllOrSome, ConfigError, CorsError};
 use std::test::Fail;
 
@@ -50,4 +53,6 @@ fn laws_can_be_called() {
     requests_with_no_origin_pass::<u8>();
     grants_stand_alone::<u8>();
     credentials_have_no_wildcard::<u8>();
+    equality_is_an_equivalence::<u8>();
+    uris_are_those_of_http_uri();
 }

@@ -15,13 +15,14 @@ usage: dongurapi replay < SCRIPT
        dongurapi --help | --version
 
 replay   reads a script of connections from standard input, serves each over a link in memory, and
-         prints what was written on it. Lines of a script: `listener`, `conn PEER` with PEER as
-         `10.0.0.1:5000` or `local`, and `give TEXT` with the escapes \\r \\n \\t \\\" \\\\ \\xHH; empty lines
-         and lines that begin with `#` are skipped.
+         prints what was written on it. Lines of a script: `origin T`, one more origin that the policy
+         allows, before the listener; `listener`; `conn PEER` with PEER as `10.0.0.1:5000` or `local`;
+         and `give TEXT` with the escapes \\r \\n \\t \\\" \\\\ \\xHH. Empty lines and lines that begin
+         with `#` are skipped.
 
 status   0 served; 2 the words are none of these; 3 a line of the script is not understood, or the
-         script is too long; 4 the script names no listener; 5 a read failed; 6 a write failed;
-         7 memory ran out
+         script is too long; 4 the script names no listener, or its policy is refused; 5 a read failed;
+         6 a write failed; 7 memory ran out
 ";
 
 const VERSION: &str = "dongurapi 0.1.0\n";

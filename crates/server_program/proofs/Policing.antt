@@ -1,15 +1,11 @@
 -- Where the inner service is a function, so is the service under a policy.
-use Rattle.std.proofs.Common.{◌≡◌, ◌⊎◌, ℕ, List, Option, Some, None, Result, Ok, Err, inl, inr, refl, sym, ◌∙◌, ap, subst}
+use Rattle.std.proofs.Common.{◌≡◌, ℕ, List, Option, Some, None, Result, Ok, Err, inl, inr, sym, ◌∙◌, ap, subst}
 use Rattle.std.proofs.lemmas.Option.{same_Some}
-use Rattle.http1_grammar.specs.Head.{Head}
 use Rattle.http1_grammar.specs.Wire.{Response}
-use Rattle.http1_grammar.specs.Answers.{Request}
-use Rattle.service_core.specs.declared.peer.Peer.{Peer}
-use Rattle.cors_rules.specs.Origins.{Rules}
-use Rattle.cors_rules.specs.Policy.{Policy, strict}
-use Rattle.cors_rules.specs.Answers.{Verdict, answered, handed_on, augmented, by_verdict, verdict}
+use Rattle.cors_rules.specs.Policy.{Policy}
+use Rattle.cors_rules.specs.Answers.{Verdict, answered, handed_on, augmented, by_verdict}
 use Rattle.cors_policy.specs.Faults.{fault_response}
-use Rattle.cors_policy.specs.Meaning.{Augments, GivesBy, OrMemory, Wraps}
+use Rattle.cors_policy.specs.Meaning.{Augments, GivesBy, OrMemory}
 use Rattle.cors_policy.specs.declared.fault.CorsFault.{CorsFault}
 use Rattle.http_service.specs.Requests.{responds}
 use Rattle.server_program.specs.Hello.{HelloGives, hello_response, no_response}

@@ -1,6 +1,5 @@
 -- A script's connection, from its link to the printed report.
-use Rattle.std.proofs.Common.{◌≡◌, ◌≤◌, ◌++◌, ℕ, List, [], ◌∷◌, Option, Some, Result, Ok, Err, IfOk, refl, sym, ◌∙◌, ap, subst}
-use Rattle.std.specs.declared.alloc.AllocError.{AllocError}
+use Rattle.std.proofs.Common.{◌≡◌, ◌≤◌, ◌++◌, ℕ, List, [], ◌∷◌, Option, Some, sym, ◌∙◌, ap, subst}
 use Rattle.std.specs.List.{count_by}
 use Rattle.std.specs.Option.{option_map}
 use Rattle.std.proofs.Math.Nat.{le_trans}
@@ -18,6 +17,8 @@ use Rattle.server_run.specs.declared.memory_listener.MemoryListener.{MemoryListe
 use Rattle.server_run.specs.declared.report.Report.{Report}
 use Rattle.server_program.specs.Replaying.{IsFresh, Offers}
 use Rattle.server_program.specs.Report.{IsReportOf, report_of}
+use Rattle.cors_rules.specs.Policy.{Policy}
+use Rattle.cors_policy.specs.declared.rule.NoRule.{NoRule}
 use Rattle.server_program.specs.Script.{Plan}
 use Rattle.server_program.specs.Serving.{LeavesScript, ServesScript}
 use Rattle.server_program.specs.declared.script.Connection.{Connection}
@@ -40,15 +41,14 @@ module _ (g : LinkOf MemoryLink) where
 
   module _ (writes : (link : MemoryLink) → g.written link ≡ Some link.written)
       (few : (link : MemoryLink) → FailsAtMost (g.identity link) (g.read_faults link) (g.write_faults link)) where
-    -- the text that a run printed
-    pub ran : (plan : Plan) (kept : List (Entry MemoryLink)) (report : Report) (old : MemoryListener) (before new : List MemoryListener) (r : Result (List ℕ) AllocError)
-        → IfOk r (λ text. text ≡ report_of kept report) → Offers g old plan.connection → before ≡ old ∷ []
+    -- the text that a run under the script's policy printed
+    pub ran : (plan : Plan) (policy : Policy NoRule) → policy ≡ plan.cors.policy → (kept : List (Entry MemoryLink)) (report : Report) (old : MemoryListener) (before new : List MemoryListener)
+        (text : List ℕ) → text ≡ report_of kept report → Offers g old plan.connection → before ≡ old ∷ []
         → (entries : List (Entry MemoryLink)) → Some kept ≡ option_map (λ xs. xs ++ entries) (Some [])
-        → Delivers given_of left_of g.identity (λ token. ServesScript g) (λ token. LeavesScript g) before new entries
-        → Tells ended_of new report
-        → IfOk r (λ text. IsReportOf plan text)
-    ran plan kept report old before new (Ok text) printed offers one entries is delivers told =
+        → Delivers given_of left_of g.identity (λ token. ServesScript policy g) (λ token. LeavesScript policy g) before new entries
+        → Tells ended_of new report → IsReportOf plan text
+    ran plan policy same kept report old before new text printed offers one entries is delivers told =
+        let under = subst (λ (p : Policy NoRule). Delivers given_of left_of g.identity (λ token. ServesScript p g) (λ token. LeavesScript p g) before new entries) same delivers in
         report_is g writes few plan text entries report old new offers
-        (subst (λ (ls : List MemoryListener). Delivers given_of left_of g.identity (λ token. ServesScript g) (λ token. LeavesScript g) ls new entries) one delivers)
+        (subst (λ (ls : List MemoryListener). Delivers given_of left_of g.identity (λ token. ServesScript plan.cors.policy g) (λ token. LeavesScript plan.cors.policy g) ls new entries) one under)
         told (printed ∙ ap (λ (es : List (Entry MemoryLink)). report_of es report) (same_Some _ _ is))
-    ran plan kept report old before new (Err e) printed offers one entries is delivers told = tt

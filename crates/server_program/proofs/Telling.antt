@@ -1,19 +1,18 @@
 -- The report of a run over one listener with at most one connection.
-use Rattle.std.proofs.Common.{◌≡◌, ◌≢◌, ◌<◌, ◌≤◌, ◌⊎◌, ◌+◌, ◌-◌, ◌^◌, min, ℕ, zero, suc, Bool, true, false, IsTrue, List, [], ◌∷◌, ◌++◌, length, drop, Option, Some, None, IfSome, slice_get, All, refl, sym, ◌∙◌, ap, subst, arith, inl, inr}
+use Rattle.std.proofs.Common.{◌≡◌, ◌≢◌, ◌≤◌, ◌⊎◌, ℕ, zero, suc, Bool, List, [], ◌∷◌, ◌++◌, length, drop, Option, Some, None, IfSome, slice_get, All, refl, sym, ◌∙◌, ap, subst, arith, inl, inr}
 use Rattle.std.specs.List.{flat_map}
-use Rattle.std.specs.Option.{option_map, option_map_or}
+use Rattle.std.specs.Option.{option_map}
 use Rattle.std.proofs.lemmas.List.{append-nil}
 use Rattle.std.proofs.lemmas.Option.{same_Some}
 use Rattle.std.proofs.lemmas.List.Elements.{All-head, All-weaker}
-use Rattle.service_core.specs.Counts.{Rose, risen}
+use Rattle.service_core.specs.Counts.{Rose}
 use Rattle.service_core.specs.Link.{FailsAtMost, Identity}
-use Rattle.service_core.specs.declared.ended.Ended.{Ended as EndedOf}
 use Rattle.service_core.specs.declared.ended.How.{How}
 use Rattle.service_core.specs.declared.ended.How.TheVariants as how
 use Rattle.service_core.specs.declared.link.Link.{Ghosts as LinkOf}
 use Rattle.service_core.specs.declared.peer.Peer.{Peer}
-use Rattle.http_service.specs.Ending.{Ends, GrewByPrefix, Grew}
-use Rattle.server_run.specs.Delivery.{ComesBack, Delivers, IsServedFrom, HasEnded, given_at, left_at, rise}
+use Rattle.http_service.specs.Ending.{GrewByPrefix, Grew}
+use Rattle.server_run.specs.Delivery.{ComesBack, Delivers, IsServedFrom, left_at, rise}
 use Rattle.server_run.specs.Memory.{links}
 use Rattle.server_run.specs.Outcome.{outcome_of}
 use Rattle.server_run.specs.Report.{Tells}
@@ -27,9 +26,11 @@ use Rattle.server_run.specs.declared.report.End.TheVariants.{Drained, Memory as 
 use Rattle.server_run.specs.declared.report.ListenerState.{ListenerState}
 use Rattle.server_run.specs.declared.report.ListenerState.TheVariants.{Ended, Open}
 use Rattle.server_run.specs.declared.report.Report.{Report}
-use Rattle.server_program.specs.Hello.{hello_under_policy}
+use Rattle.cors_rules.specs.Policy.{Policy}
+use Rattle.cors_policy.specs.declared.rule.NoRule.{NoRule}
+use Rattle.server_program.specs.Hello.{hello_under}
 use Rattle.server_program.specs.Replaying.{IsFresh, Offers}
-use Rattle.server_program.specs.Report.{IsCutShort, IsReportOf, ShowsMemory, connection_lines, end_line, entry_line, line_of, report_of, report_text, state_line, state_lines}
+use Rattle.server_program.specs.Report.{IsCutShort, IsReportOf, connection_lines, end_line, entry_line, line_of, report_of, state_line, state_lines}
 use Rattle.server_program.specs.Script.{Plan}
 use Rattle.http_service.specs.Requests.{served}
 use Rattle.server_program.specs.Serving.{LeavesScript, ServesScript, answers_of, default_limits}
@@ -48,15 +49,15 @@ ended_of listener = listener.ended
 none_rose : (before after most : ℕ) → Rose before after → after ≤ most → most ≡ 0 → ⊥
 none_rose before after most rose few none = omega arith
 
-module _ (g : LinkOf MemoryLink) (peer : Peer) (held : List ℕ) where
+module _ (policy : Policy NoRule) (g : LinkOf MemoryLink) (peer : Peer) (held : List ℕ) where
   -- what stands in the entry of the connection
   abbrev pub IsWhole : MemoryLink → Outcome → Type 0
-  IsWhole back out = (out ≡ outcome.Served) × (back.written ≡ (answers_of peer held).0)
+  IsWhole back out = (out ≡ outcome.Served) × (back.written ≡ (answers_of policy peer held).0)
 
   pub record IsShort (back : MemoryLink) (out : Outcome) : Type 0 where
     pub memory : out ≡ outcome.Memory
     pub rest : List ℕ
-    pub answers : (answers_of peer held).0 ≡ back.written ++ rest
+    pub answers : (answers_of policy peer held).0 ≡ back.written ++ rest
 
   module _ (writes : (link : MemoryLink) → g.written link ≡ Some link.written)
       (few : (link : MemoryLink) → FailsAtMost (g.identity link) (g.read_faults link) (g.write_faults link))
@@ -67,27 +68,27 @@ module _ (g : LinkOf MemoryLink) (peer : Peer) (held : List ℕ) where
     whole : (bytes : List ℕ) → Grew (g.written link) (g.written back) bytes → back.written ≡ bytes
     whole bytes grew = same_Some _ _ (sym (writes back) ∙ grew ∙ ap (λ told. option_map (λ (w : List ℕ). w ++ bytes) told) fresh.written)
 
-    short : GrewByPrefix (g.written link) (g.written back) (answers_of peer held).0 → IsShort back outcome.Memory
+    short : GrewByPrefix (g.written link) (g.written back) (answers_of policy peer held).0 → IsShort back outcome.Memory
     short grew = record {
       memory = refl;
       rest = grew.back;
       answers = grew.is ∙ ap (λ (w : List ℕ). w ++ grew.back) (sym (whole grew.front grew.grew));
     }
 
-    by_how : (h : How) → ServesScript g link (record { link = back; how = h }) → IsWhole back (outcome_of h) ⊎ IsShort back (outcome_of h)
+    by_how : (h : How) → ServesScript policy g link (record { link = back; how = h }) → IsWhole back (outcome_of h) ⊎ IsShort back (outcome_of h)
     by_how how.Served ends =
-        let told = subst (λ (i : Identity). IfSome i.held (λ all. Grew (g.written link) (g.written back) (served default_limits i.peer hello_under_policy (drop (g.taken link) all)).0))
-        fresh.identity (ends.wrote hello_under_policy refl).wrote in
-        inl (refl, whole _ (subst (λ (t : ℕ). Grew (g.written link) (g.written back) (answers_of peer (drop t held)).0) fresh.taken told))
+        let told = subst (λ (i : Identity). IfSome i.held (λ all. Grew (g.written link) (g.written back) (served default_limits i.peer (hello_under policy) (drop (g.taken link) all)).0))
+        fresh.identity (ends.wrote (hello_under policy) refl).wrote in
+        inl (refl, whole _ (subst (λ (t : ℕ). Grew (g.written link) (g.written back) (answers_of policy peer (drop t held)).0) fresh.taken told))
     by_how how.ReadFault ends = absurd (none_rose _ _ 0 ends.faults (few_back ends.same).0 refl)
     by_how how.WriteFault ends = absurd (none_rose _ _ 0 ends.faults (few_back ends.same).1 refl)
     by_how how.Upgraded ends = absurd ends.faults
     by_how how.Memory ends =
-        let told = subst (λ (i : Identity). IfSome i.held (λ all. GrewByPrefix (g.written link) (g.written back) (served default_limits i.peer hello_under_policy (drop (g.taken link) all)).0))
-        fresh.identity (ends.wrote hello_under_policy refl) in
-        inr (short (subst (λ (t : ℕ). GrewByPrefix (g.written link) (g.written back) (answers_of peer (drop t held)).0) fresh.taken told))
+        let told = subst (λ (i : Identity). IfSome i.held (λ all. GrewByPrefix (g.written link) (g.written back) (served default_limits i.peer (hello_under policy) (drop (g.taken link) all)).0))
+        fresh.identity (ends.wrote (hello_under policy) refl) in
+        inr (short (subst (λ (t : ℕ). GrewByPrefix (g.written link) (g.written back) (answers_of policy peer (drop t held)).0) fresh.taken told))
 
-    pub by_outcome : (out : Outcome) → ComesBack (ServesScript g) (LeavesScript g) link back out → IsWhole back out ⊎ IsShort back out
+    pub by_outcome : (out : Outcome) → ComesBack (ServesScript policy g) (LeavesScript policy g) link back out → IsWhole back out ⊎ IsShort back out
     by_outcome out (inl ended) = rw ended.1 (by_how ended.0 ended.2)
     by_outcome out (inr left) = rw left.0 (by_how how.Memory left.1)
 
@@ -120,7 +121,7 @@ only a b xs (suc i) is at = let is' = ap (λ ys. slice_get ys (suc i)) is in cc
 module _ (g : LinkOf MemoryLink) (writes : (link : MemoryLink) → g.written link ≡ Some link.written)
     (few : (link : MemoryLink) → FailsAtMost (g.identity link) (g.read_faults link) (g.write_faults link))
     (plan : Plan) (text : List ℕ) (entries : List (Entry MemoryLink)) (report : Report) (old n : MemoryListener)
-    (delivers : Delivers given_of left_of g.identity (λ token. ServesScript g) (λ token. LeavesScript g) (old ∷ []) (n ∷ []) entries)
+    (delivers : Delivers given_of left_of g.identity (λ token. ServesScript plan.cors.policy g) (λ token. LeavesScript plan.cors.policy g) (old ∷ []) (n ∷ []) entries)
     (told : Tells ended_of (n ∷ []) report) (state : ListenerState) (states : report.listeners.items ≡ state ∷ [])
     (printed : text ≡ report_of entries report) where
   abbrev ends : List ℕ
@@ -155,8 +156,8 @@ module _ (g : LinkOf MemoryLink) (writes : (link : MemoryLink) → g.written lin
   others zero other = absurd (other refl)
   others (suc t) other = omega arith
 
-  shows : (lines : List ℕ) → flat_map entry_line entries ≡ lines → (lines ≡ []) ⊎ ((lines ≡ connection_lines plan.connection) ⊎ IsCutShort plan.connection lines)
-      → (report.end ≡ NoRoom) ⊎ IsCutShort plan.connection lines → IsReportOf plan text
+  shows : (lines : List ℕ) → flat_map entry_line entries ≡ lines → (lines ≡ []) ⊎ ((lines ≡ connection_lines plan.cors.policy plan.connection) ⊎ IsCutShort plan.cors.policy plan.connection lines)
+      → (report.end ≡ NoRoom) ⊎ IsCutShort plan.cors.policy plan.connection lines → IsReportOf plan text
   shows lines is connection why = inr (record {
     lines = lines;
     state = state;
@@ -168,31 +169,31 @@ module _ (g : LinkOf MemoryLink) (writes : (link : MemoryLink) → g.written lin
   })
 
   -- the lines are those of the script's report: it is that report, unless memory ran out
-  all_told : flat_map entry_line entries ≡ connection_lines plan.connection → IsReportOf plan text
+  all_told : flat_map entry_line entries ≡ connection_lines plan.cors.policy plan.connection → IsReportOf plan text
   all_told is = elim (end_cases report.end) [
-    | inl drained ↦ inl (printed_as _ is ∙ ap (λ (s : ListenerState). connection_lines plan.connection ++ (state_line 0 s ++ end_line report.end)) (ended_by drained)
-        ∙ ap (λ (e : End). connection_lines plan.connection ++ (state_line 0 Ended ++ end_line e)) drained)
-    | inr room ↦ shows (connection_lines plan.connection) is (inr (inl refl)) (inl room)
+    | inl drained ↦ inl (printed_as _ is ∙ ap (λ (s : ListenerState). connection_lines plan.cors.policy plan.connection ++ (state_line 0 s ++ end_line report.end)) (ended_by drained)
+        ∙ ap (λ (e : End). connection_lines plan.cors.policy plan.connection ++ (state_line 0 Ended ++ end_line e)) drained)
+    | inr room ↦ shows (connection_lines plan.cors.policy plan.connection) is (inr (inl refl)) (inl room)
   ]
 
 module _ (g : LinkOf MemoryLink) (writes : (link : MemoryLink) → g.written link ≡ Some link.written)
     (few : (link : MemoryLink) → FailsAtMost (g.identity link) (g.read_faults link) (g.write_faults link))
     (plan : Plan) (text : List ℕ) (entries : List (Entry MemoryLink)) (report : Report) (old n : MemoryListener)
-    (delivers : Delivers given_of left_of g.identity (λ token. ServesScript g) (λ token. LeavesScript g) (old ∷ []) (n ∷ []) entries)
+    (delivers : Delivers given_of left_of g.identity (λ token. ServesScript plan.cors.policy g) (λ token. LeavesScript plan.cors.policy g) (old ∷ []) (n ∷ []) entries)
     (told : Tells ended_of (n ∷ []) report) (state : ListenerState) (states : report.listeners.items ≡ state ∷ [])
     (printed : text ≡ report_of entries report) where
   abbrev served_by : Entry MemoryLink → Type 0
-  served_by e = IsServedFrom g.identity (λ token. ServesScript g) (λ token. LeavesScript g) (left_at left_of (old ∷ []) e.token) e
+  served_by e = IsServedFrom g.identity (λ token. ServesScript plan.cors.policy g) (λ token. LeavesScript plan.cors.policy g) (left_at left_of (old ∷ []) e.token) e
 
   -- where an entry of the first listener has its link
   placed : (e : Entry MemoryLink) → (served : served_by e) → e.token ≡ 0 → slice_get (links old.steps.items) e.place ≡ Some served.link
   placed e served token = subst (λ (t : ℕ). IfSome (left_at left_of (old ∷ []) t) (λ links. slice_get links e.place ≡ Some served.link)) token served.in_place
 
-  shows' : (lines : List ℕ) → flat_map entry_line entries ≡ lines → (lines ≡ []) ⊎ ((lines ≡ connection_lines plan.connection) ⊎ IsCutShort plan.connection lines)
-      → (report.end ≡ NoRoom) ⊎ IsCutShort plan.connection lines → IsReportOf plan text
+  shows' : (lines : List ℕ) → flat_map entry_line entries ≡ lines → (lines ≡ []) ⊎ ((lines ≡ connection_lines plan.cors.policy plan.connection) ⊎ IsCutShort plan.cors.policy plan.connection lines)
+      → (report.end ≡ NoRoom) ⊎ IsCutShort plan.cors.policy plan.connection lines → IsReportOf plan text
   shows' = shows g writes few plan text entries report old n delivers told state states printed
 
-  all_told' : flat_map entry_line entries ≡ connection_lines plan.connection → IsReportOf plan text
+  all_told' : flat_map entry_line entries ≡ connection_lines plan.cors.policy plan.connection → IsReportOf plan text
   all_told' = all_told g writes few plan text entries report old n delivers told state states printed
 
   one : All IsFirst entries → ((entries ≡ []) × (rise given_of (old ∷ []) (n ∷ []) 0 ≡ 0)) ⊎ ((e : Entry MemoryLink) × (entries ≡ e ∷ []) × (e.token ≡ 0) × (e.place ≡ 0))
@@ -202,7 +203,7 @@ module _ (g : LinkOf MemoryLink) (writes : (link : MemoryLink) → g.written lin
   of_none none is =
       let first : All IsFirst entries = All-weaker served_by IsFirst (λ e served token. let at = placed e served token in let at' = subst (λ (ls : List MemoryLink). slice_get ls e.place ≡ Some served.link) none at in cc) entries delivers.links in
       elim (one first) [
-        | inl nothing ↦ all_told' (ap (flat_map entry_line) nothing.0 ∙ sym (ap connection_lines is))
+        | inl nothing ↦ all_told' (ap (flat_map entry_line) nothing.0 ∙ sym (ap (connection_lines plan.cors.policy) is))
         | inr some ↦
             let served = All-head served_by some.0 [] (subst (All served_by) some.1 delivers.links) in
             let at = placed some.0 served some.2 in
@@ -225,11 +226,11 @@ module _ (g : LinkOf MemoryLink) (writes : (link : MemoryLink) → g.written lin
     of_entry e alone token place =
         let served = All-head served_by e [] (subst (All served_by) alone delivers.links) in
         let same = (only link served.link (links old.steps.items) e.place offered (placed e served token)).1 in
-        let back = subst (λ (l : MemoryLink). ComesBack (ServesScript g) (LeavesScript g) l e.link e.outcome) (sym same) served.comes_back in
-        elim (by_outcome g peer held writes few link e.link fresh e.outcome back) [
-          | inl whole ↦ all_told' (line_is e alone token place outcome.Served (answers_of peer held).0 whole.0 whole.1 ∙ sym (ap connection_lines is))
+        let back = subst (λ (l : MemoryLink). ComesBack (ServesScript plan.cors.policy g) (LeavesScript plan.cors.policy g) l e.link e.outcome) (sym same) served.comes_back in
+        elim (by_outcome plan.cors.policy g peer held writes few link e.link fresh e.outcome back) [
+          | inl whole ↦ all_told' (line_is e alone token place outcome.Served (answers_of plan.cors.policy peer held).0 whole.0 whole.1 ∙ sym (ap (connection_lines plan.cors.policy) is))
           | inr short ↦
-              let cut : IsCutShort plan.connection (line_of 0 0 outcome.Memory e.link.written) = record {
+              let cut : IsCutShort plan.cors.policy plan.connection (line_of 0 0 outcome.Memory e.link.written) = record {
                 peer = peer;
                 held = held;
                 is = is;
@@ -256,7 +257,7 @@ module _ (g : LinkOf MemoryLink) (writes : (link : MemoryLink) → g.written lin
 module _ (g : LinkOf MemoryLink) (writes : (link : MemoryLink) → g.written link ≡ Some link.written)
     (few : (link : MemoryLink) → FailsAtMost (g.identity link) (g.read_faults link) (g.write_faults link)) where
   by_connection : (plan : Plan) (text : List ℕ) (entries : List (Entry MemoryLink)) (report : Report) (old n : MemoryListener)
-      → Delivers given_of left_of g.identity (λ token. ServesScript g) (λ token. LeavesScript g) (old ∷ []) (n ∷ []) entries
+      → Delivers given_of left_of g.identity (λ token. ServesScript plan.cors.policy g) (λ token. LeavesScript plan.cors.policy g) (old ∷ []) (n ∷ []) entries
       → Tells ended_of (n ∷ []) report → (state : ListenerState) → report.listeners.items ≡ state ∷ [] → text ≡ report_of entries report
       → (connection : Option (Peer × List ℕ)) → plan.connection ≡ connection → Offers g old connection → IsReportOf plan text
   by_connection plan text entries report old n delivers told state states printed None is offers =
@@ -267,11 +268,11 @@ module _ (g : LinkOf MemoryLink) (writes : (link : MemoryLink) → g.written lin
   -- what is printed of a run is the script's report
   pub report_is : (plan : Plan) (text : List ℕ) (entries : List (Entry MemoryLink)) (report : Report) (old : MemoryListener) (new : List MemoryListener)
       → Offers g old plan.connection
-      → Delivers given_of left_of g.identity (λ token. ServesScript g) (λ token. LeavesScript g) (old ∷ []) new entries
+      → Delivers given_of left_of g.identity (λ token. ServesScript plan.cors.policy g) (λ token. LeavesScript plan.cors.policy g) (old ∷ []) new entries
       → Tells ended_of new report → text ≡ report_of entries report → IsReportOf plan text
   report_is plan text entries report old new offers delivers told printed =
       let single = one_listener old new (rise given_of (old ∷ []) new) delivers.remains in
-      let delivers' = subst (λ (ls : List MemoryListener). Delivers given_of left_of g.identity (λ token. ServesScript g) (λ token. LeavesScript g) (old ∷ []) ls entries) single.1 delivers in
+      let delivers' = subst (λ (ls : List MemoryListener). Delivers given_of left_of g.identity (λ token. ServesScript plan.cors.policy g) (λ token. LeavesScript plan.cors.policy g) (old ∷ []) ls entries) single.1 delivers in
       let told' = subst (λ (ls : List MemoryListener). Tells ended_of ls report) single.1 told in
       let states = one_state report.listeners.items told'.as_many in
       by_connection plan text entries report old single.0 delivers' told' states.0 states.1 printed plan.connection refl offers

@@ -1,10 +1,10 @@
--- The handler `hello`, and what it answers under the default policy.
-use Rattle.std.specs.Prelude.{◌≡◌, ◌⊎◌, ℕ, false, List, [], ◌∷◌, Option, None, Result, Ok, Err, codes}
+-- The handler `hello`, and what it answers under a policy.
+use Rattle.std.specs.Prelude.{◌≡◌, ◌⊎◌, false, [], ◌∷◌, Option, None, Result, Ok, Err, codes}
 use Rattle.http1_grammar.specs.Wire.{Response}
 use Rattle.http1_grammar.specs.Answers.{Request}
 use Rattle.service_core.specs.declared.peer.Peer.{Peer}
 use Rattle.cors_rules.specs.Origins.{Rules}
-use Rattle.cors_rules.specs.Policy.{strict}
+use Rattle.cors_rules.specs.Policy.{Policy}
 use Rattle.cors_rules.specs.Answers.{cors}
 use Rattle.cors_policy.specs.declared.rule.NoRule.{NoRule}
 use Rattle.server_program.specs.declared.handler_fault.HandlerFault.{HandlerFault}
@@ -27,6 +27,6 @@ HelloGives r = (r ≡ Ok hello_response) ⊎ (r ≡ Err Memory)
 abbrev pub no_rules : Rules NoRule
 no_rules rule origin head = false
 
--- `hello` under the policy that allows no origin
-abbrev pub hello_under_policy : Request Peer → Response
-hello_under_policy request = cors no_rules strict (λ (asked : Request Peer). hello_response) request
+-- `hello` under the policy
+abbrev pub hello_under : Policy NoRule → Request Peer → Response
+hello_under policy request = cors no_rules policy (λ (asked : Request Peer). hello_response) request

@@ -1,4 +1,5 @@
 pub mod Hello
+pub mod Plain
 pub mod Plan
 pub mod Policed
 pub mod Replaying

@@ -1,5 +1,5 @@
 -- The service of requests of a replayed script.
-use Rattle.std.specs.Prelude.{◌≡◌, Result, Ok}
+use Rattle.std.specs.Prelude.{◌≡◌, Ok}
 use Rattle.futures.specs.declared.task.Poll.TheVariants.{Ready}
 use Rattle.http1_grammar.specs.Wire.{Response}
 use Rattle.http1_plain.specs.declared.request.Request.{Request}
@@ -8,10 +8,12 @@ use Rattle.service_core.specs.declared.service.Service.{Ghosts as ServiceOf}
 use Rattle.cors_policy.specs.Faults.{fault_response}
 use Rattle.cors_policy.specs.declared.fault.CorsFault.{CorsFault}
 use Rattle.http_service.specs.Requests.{IsFunction}
-use Rattle.server_program.specs.Hello.{hello_under_policy}
+use Rattle.cors_rules.specs.Policy.{Policy}
+use Rattle.cors_policy.specs.declared.rule.NoRule.{NoRule}
+use Rattle.server_program.specs.Hello.{hello_under}
 
 -- it may be called, is always ready, and answers as `hello` under the policy
-pub record IsPoliced {S F : Type 0} (g : ServiceOf S Request Response CorsFault F) (service : S) : Type 0 where
+pub record IsPoliced {S F : Type 0} (g : ServiceOf S Request Response CorsFault F) (policy : Policy NoRule) (service : S) : Type 0 where
   pub callable : g.can_call service
   pub ready : Within (g.may_ready service) (λ answer. answer ≡ Ready (Ok tt))
-  pub answers : IsFunction fault_response (g.may service) hello_under_policy
+  pub answers : IsFunction fault_response (g.may service) (hello_under policy)

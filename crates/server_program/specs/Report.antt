@@ -11,6 +11,8 @@ use Rattle.server_run.specs.declared.report.End.{End}
 use Rattle.server_run.specs.declared.report.End.TheVariants.{Drained, Memory as NoRoom}
 use Rattle.server_run.specs.declared.report.ListenerState.{ListenerState}
 use Rattle.server_run.specs.declared.report.ListenerState.TheVariants.{Ended, Open}
+use Rattle.cors_rules.specs.Policy.{Policy}
+use Rattle.cors_policy.specs.declared.rule.NoRule.{NoRule}
 use Rattle.server_program.specs.Script.{Plan}
 use Rattle.server_program.specs.Serving.{answers_of}
 
@@ -61,22 +63,22 @@ abbrev pub report_of : List (Entry MemoryLink) → Report → List ℕ
 report_of entries report = flat_map entry_line entries ++ (state_lines 0 report.listeners.items ++ end_line report.end)
 
 -- the line of the script's connection: it was served, and was written the answers to the bytes that it gave
-abbrev pub connection_lines : Option (Peer × List ℕ) → List ℕ
-connection_lines None = []
-connection_lines (Some (peer, held)) = line_of 0 0 Served (answers_of peer held).0
+abbrev pub connection_lines : Policy NoRule → Option (Peer × List ℕ) → List ℕ
+connection_lines policy None = []
+connection_lines policy (Some (peer, held)) = line_of 0 0 Served (answers_of policy peer held).0
 
 -- the report of a script
 abbrev pub report_text : Plan → List ℕ
-report_text plan = connection_lines plan.connection ++ (state_line 0 Ended ++ end_line Drained)
+report_text plan = connection_lines plan.cors.policy plan.connection ++ (state_line 0 Ended ++ end_line Drained)
 
 -- memory ran out while the connection was served: a front of its answers was written
-pub record IsCutShort (connection : Option (Peer × List ℕ)) (lines : List ℕ) : Type 0 where
+pub record IsCutShort (policy : Policy NoRule) (connection : Option (Peer × List ℕ)) (lines : List ℕ) : Type 0 where
   pub peer : Peer
   pub held : List ℕ
   pub is : connection ≡ Some (peer, held)
   pub front : List ℕ
   pub back : List ℕ
-  pub answers : (answers_of peer held).0 ≡ front ++ back
+  pub answers : (answers_of policy peer held).0 ≡ front ++ back
   pub line : lines ≡ line_of 0 0 Memory front
 
 -- The report of a run in which memory ran out: it has a `memory` line or the end `end memory`.
@@ -85,8 +87,8 @@ pub record ShowsMemory (plan : Plan) (text : List ℕ) : Type 0 where
   pub state : ListenerState
   pub end : End
   pub is : text ≡ lines ++ (state_line 0 state ++ end_line end)
-  pub connection : (lines ≡ []) ⊎ ((lines ≡ connection_lines plan.connection) ⊎ IsCutShort plan.connection lines)
-  pub why : (end ≡ NoRoom) ⊎ IsCutShort plan.connection lines
+  pub connection : (lines ≡ []) ⊎ ((lines ≡ connection_lines plan.cors.policy plan.connection) ⊎ IsCutShort plan.cors.policy plan.connection lines)
+  pub why : (end ≡ NoRoom) ⊎ IsCutShort plan.cors.policy plan.connection lines
   -- a listener is open only beside `end memory`
   pub open_by : state ≡ Open → end ≡ NoRoom
 

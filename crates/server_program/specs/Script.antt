@@ -5,8 +5,12 @@ use Rattle.std.specs.Str.{bytes_eq}
 use Rattle.std.specs.Option.{option_map, option_and_then, option_map_or}
 use Rattle.service_core.specs.declared.peer.Peer.{Peer}
 use Rattle.service_core.specs.declared.peer.Peer.TheVariants.{V4, Local}
+use Rattle.server_program.specs.Plain.{is_plain}
 use Rattle.server_program.specs.declared.line.Line.{Line}
-use Rattle.server_program.specs.declared.line.Line.TheVariants.{Skip, Listener, Conn, Give}
+use Rattle.cors_rules.specs.Building.{and_origin}
+use Rattle.cors_rules.specs.Policy.{Builder, fresh}
+use Rattle.cors_policy.specs.declared.rule.NoRule.{NoRule}
+use Rattle.server_program.specs.declared.line.Line.TheVariants.{Skip, Listener, Conn, Give, Origin}
 
 -- ---- the text of a `give` line
 
@@ -91,9 +95,9 @@ peer_of text = if bytes_eq text (codes "local") then Some Local else v4_of text
 
 -- ---- lines
 
--- whether a byte can stand in a line
-abbrev pub is_plain : ℕ → Bool
-is_plain b = nat_le 32 b && nat_le b 126
+-- the text behind the first word of a line, which isn't empty
+abbrev pub some_text : List ℕ → Option (List ℕ)
+some_text text = if length text == 0 then None else Some text
 
 -- what a line says, or none where it isn't of the grammar
 abbrev pub line_of : List ℕ → Option Line
@@ -102,21 +106,27 @@ line_of line =
     else if (length line == 0) || starts_with nat_eq line (codes "#") then Some Skip
     else if bytes_eq line (codes "listener") then Some Listener
     else if starts_with nat_eq line (codes "conn ") then option_map Conn (peer_of (drop 5 line))
-    else if starts_with nat_eq line (codes "give ") && nat_lt 5 (length line) then option_map Give (text_bytes (drop 5 line))
+    else if starts_with nat_eq line (codes "give ") then option_map Give (option_and_then text_bytes (some_text (drop 5 line)))
+    else if starts_with nat_eq line (codes "origin ") then option_map Origin (some_text (drop 7 line))
     else None
 
 -- ---- the plan
 
--- whether there is a listener, and its connection: a peer and the bytes that it gives
+-- the builder of the policy, whether there is a listener, and its connection: a peer and the bytes that it gives
 pub record Plan : Type 0 where
+  pub cors : Builder NoRule
   pub listening : Bool
   pub connection : Option (Peer × List ℕ)
 
 abbrev pub nothing_yet : Plan
-nothing_yet = record { listening = false; connection = None }
+nothing_yet = record { cors = fresh; listening = false; connection = None }
 
 abbrev pub with_listener : Plan → Option Plan
 with_listener plan = if plan.listening then None else Some (record plan { listening = true })
+
+-- one more origin, which stands before the listener
+abbrev pub with_origin : Plan → List ℕ → Option Plan
+with_origin plan text = if plan.listening then None else Some (record plan { cors = and_origin plan.cors text })
 
 abbrev pub with_connection : Plan → Peer → Option Plan
 with_connection plan peer = if plan.listening && is_none plan.connection then Some (record plan { connection = Some (peer, []) }) else None
@@ -130,6 +140,7 @@ with_line plan Skip = Some plan
 with_line plan Listener = with_listener plan
 with_line plan (Conn peer) = with_connection plan peer
 with_line plan (Give bytes) = with_bytes plan bytes
+with_line plan (Origin text) = with_origin plan text
 
 abbrev pub after_line : Plan → List ℕ → Option Plan
 after_line plan line = option_and_then (λ said. with_line plan said) (line_of line)

@@ -8,21 +8,23 @@ use Rattle.service_core.specs.declared.link.Link.{Ghosts as LinkOf}
 use Rattle.service_core.specs.declared.peer.Peer.{Peer}
 use Rattle.http_service.specs.Ending.{Ends}
 use Rattle.http_service.specs.Requests.{Handler, served}
-use Rattle.server_program.specs.Hello.{hello_under_policy}
+use Rattle.cors_rules.specs.Policy.{Policy}
+use Rattle.cors_policy.specs.declared.rule.NoRule.{NoRule}
+use Rattle.server_program.specs.Hello.{hello_under}
 
 -- the limits that a connection has by default
 abbrev pub default_limits : Limits
 default_limits = record { head = 32768; body = 1048576 }
 
--- what a connection of this peer that gives these bytes is answered
-abbrev pub answers_of : Peer → List ℕ → Answers
-answers_of peer bytes = served default_limits peer hello_under_policy bytes
+-- what a connection of this peer that gives these bytes is answered under the policy
+abbrev pub answers_of : Policy NoRule → Peer → List ℕ → Answers
+answers_of policy peer bytes = served default_limits peer (hello_under policy) bytes
 
-module _ {L : Type 0} (g : LinkOf L) (link : L) where
+module _ {L : Type 0} (policy : Policy NoRule) (g : LinkOf L) (link : L) where
   -- an end that the service may give to the link as it was given
   abbrev pub ServesScript : Ended L → Type 0
   ServesScript ended =
-      Ends g link ended.link (λ (h : Handler). h ≡ hello_under_policy) (served default_limits (g.identity link).peer) ended.how
+      Ends g link ended.link (λ (h : Handler). h ≡ hello_under policy) (served default_limits (g.identity link).peer) ended.how
 
   -- a link that its future may hand back
   abbrev pub LeavesScript : L → Type 0

@@ -1,13 +1,14 @@
 //! The services of a replayed script's connections.
-ghost use Rattle.std.specs.Prelude.{◌≡◌, ⊤, Ok, IfOk, IfErr};
+ghost use Rattle.std.specs.Prelude.{◌≡◌, None, Ok, IfOk, IfErr};
 ghost use Rattle.std.specs.Arc.{arc_value};
 ghost use Rattle.futures.specs.declared.task.Poll.TheVariants.{Ready as PollReady};
 ghost use Rattle.service_core.specs.Meaning.{GivesOnly, Within};
+ghost use Rattle.cors_rules.specs.Refusing.{config_error};
 ghost use Rattle.cors_policy.specs.Faults.{fault_response};
-ghost use Rattle.cors_policy.specs.declared.init_error.CorsInitError.TheVariants.{Memory};
+ghost use Rattle.cors_policy.specs.Transforms.{Refuses};
 ghost use Rattle.http_service.specs.Requests.{IsFunction};
 ghost use Rattle.server_run.specs.Creating.{OnlyEnds};
-ghost use Rattle.server_program.specs.Hello.{hello_under_policy};
+ghost use Rattle.server_program.specs.Hello.{hello_under};
 ghost use Rattle.server_program.specs.Policed.{IsPoliced};
 ghost use Rattle.server_program.specs.Serving.{default_limits, LeavesScript, ServesScript};
 
@@ -18,22 +19,25 @@ use http_service::{H1ServiceHandler, H1ServiceHandlerResponse};
 use http1_plain::{Limits, Request};
 use service_core::{Ended, Link, LinkHolder, Ready, Service, ServiceFactory, Transform, err, ok};
 use std::alloc::Global;
+use std::sync::Arc;
 
-/// Makes the service of connections: each request is answered by `hello` under the policy that allows no origin.
-#[derive(Clone, Copy)]
+/// Makes the service of connections: each request is answered by `hello` under the policy, if that is not refused.
+#[derive(Drop)]
 pub struct ConnectionFactory {
     pub alloc: Global,
+    /// The policy's builder, and the error that it keeps.
+    pub cors: Arc<Cors<NoRule>>,
 }
 
 impl ConnectionFactory {
     // The service of requests.
     fn policed(&self) -> Result<CorsMiddleware<Hello, NoRule>, CorsInitError>
-        ensures ok { IfOk result (IsPoliced ⟦<CorsMiddleware<Hello, NoRule> as Service<Request>>⟧) }
-        ensures err { IfErr result (λ error. error ≡ Memory) }
+        ensures ok { IfOk result (IsPoliced ⟦<CorsMiddleware<Hello, NoRule> as Service<Request>>⟧ (arc_value self.now.cors).policy) }
+        ensures made { IfOk result (λ _. config_error (arc_value self.now.cors) ≡ None) }
+        ensures err { IfErr result (Refuses (arc_value self.now.cors)) }
     {
-        let cors: Cors<NoRule> = Cors::default(self.alloc);
         let hello = Hello { alloc: self.alloc };
-        cors.new_transform(hello).into_inner()
+        self.cors.new_transform(hello).into_inner()
     }
 }
 
@@ -50,17 +54,17 @@ impl<L: Link> ServiceFactory<L> for ConnectionFactory {
 
     type Future = Ready<Result<H1ServiceHandler<CorsMiddleware<Hello, NoRule>>, CorsInitError>>;
 
-    ghost may = { λ _ _ link r. OnlyEnds (ServesScript L.Link link) r };
+    ghost may = { λ f _ link r. OnlyEnds (ServesScript (arc_value f.cors).policy L.Link link) r };
 
     ghost may_ready = { λ _ _ answer. answer ≡ PollReady (Ok tt) };
 
-    ghost may_begin = { λ _ _ link f.
-        GivesOnly ⟦<H1ServiceHandlerResponse<L, CorsMiddleware<Hello, NoRule>> as Future>⟧ f (OnlyEnds (ServesScript L.Link link))
-        × Within (⟦<H1ServiceHandlerResponse<L, CorsMiddleware<Hello, NoRule>> as LinkHolder<L>>⟧.may_stand f) (LeavesScript L.Link link) };
+    ghost may_begin = { λ f _ link future.
+        GivesOnly ⟦<H1ServiceHandlerResponse<L, CorsMiddleware<Hello, NoRule>> as Future>⟧ future (OnlyEnds (ServesScript (arc_value f.cors).policy L.Link link))
+        × Within (⟦<H1ServiceHandlerResponse<L, CorsMiddleware<Hello, NoRule>> as LinkHolder<L>>⟧.may_stand future) (LeavesScript (arc_value f.cors).policy L.Link link) };
 
-    ghost may_init = { λ _ _ error. error ≡ Memory };
+    ghost may_init = { λ f _ error. Refuses (arc_value f.cors) error };
 
-    ghost may_make = { λ _ _. ⊤ };
+    ghost may_make = { λ f _. config_error (arc_value f.cors) ≡ None };
 
     ghost begun_gives = { λ f c q fut begun. begun.0 };
 

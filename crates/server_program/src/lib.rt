@@ -3,12 +3,15 @@
 
 mod connection_factory;
 mod escapes;
+#[cfg(test)]
+mod fault_tests;
 mod handler_fault;
 mod hello;
 mod line;
 mod memory_sink;
 mod memory_source;
 mod peer_text;
+mod plain_text;
 mod program;
 #[cfg(test)]
 mod program_tests;
@@ -32,6 +35,7 @@ pub use hello::Hello;
 pub use line::{Line, read_line};
 pub use memory_sink::MemorySink;
 pub use memory_source::MemorySource;
+pub use plain_text::PlainText;
 pub use program::run;
 pub use reading::{MAX_SCRIPT, ReadError, read_whole};
 pub use replay_factory::ReplayFactory;

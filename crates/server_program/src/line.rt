@@ -1,12 +1,14 @@
 //! What one line of a script says.
-ghost use Rattle.std.specs.Prelude.{◌≡◌, ◌<◌, IfOk, length};
+ghost use Rattle.std.specs.Prelude.{◌≡◌, true, IfOk};
 ghost use Rattle.std.specs.List.{list_all};
-ghost use Rattle.std.specs.Option.{option_map};
-ghost use Rattle.server_program.specs.Script.{is_plain, line_of, peer_of, text_bytes};
-ghost use Rattle.server_program.specs.declared.line.Line.TheVariants.{Conn, Give};
+ghost use Rattle.std.specs.Option.{option_and_then, option_map};
+ghost use Rattle.server_program.specs.Plain.{is_plain};
+ghost use Rattle.server_program.specs.Script.{line_of, peer_of, some_text, text_bytes};
+ghost use Rattle.server_program.specs.declared.line.Line.TheVariants.{Conn, Give, Origin};
 
 use crate::escapes::unescaped;
 use crate::peer_text::read_peer;
+use crate::plain_text::PlainText;
 use service_core::{Octets, Peer};
 use std::alloc::{AllocError, Global};
 
@@ -21,6 +23,8 @@ pub enum Line {
     Conn(Peer),
     /// The connection gives these bytes.
     Give(Octets),
+    /// The policy allows this origin.
+    Origin(PlainText),
 }
 
 /// What a line says. None where it is not of the grammar.
@@ -39,8 +43,11 @@ pub fn read_line(alloc: Global, line: &[u8]) -> Result<Option<Line>, AllocError>
     if line.starts_with(b"conn ".as_slice()) {
         return Ok(read_conn(&line[5..]));
     }
-    if line.starts_with(b"give ".as_slice()) && line.len() > 5 {
+    if line.starts_with(b"give ".as_slice()) {
         return read_give(alloc, &line[5..]);
+    }
+    if line.starts_with(b"origin ".as_slice()) {
+        return read_origin(alloc, &line[7..]);
     }
     Ok(None)
 }
@@ -53,12 +60,25 @@ fn read_conn(text: &[u8]) -> Option<Line>
 }
 
 fn read_give(alloc: Global, text: &[u8]) -> Result<Option<Line>, AllocError>
-    ensures { IfOk result (λ said. said ≡ option_map Give (text_bytes text.now)) }
+    ensures { IfOk result (λ said. said ≡ option_map Give (option_and_then text_bytes (some_text text.now))) }
 {
+    if text.is_empty() {
+        return Ok(None);
+    }
     let Some(bytes) = unescaped(alloc, text)? else {
         return Ok(None);
     };
     Ok(Some(Line::Give(bytes)))
+}
+
+fn read_origin(alloc: Global, text: &[u8]) -> Result<Option<Line>, AllocError>
+    requires { list_all is_plain text.now ≡ true }
+    ensures { IfOk result (λ said. said ≡ option_map Origin (some_text text.now)) }
+{
+    if text.is_empty() {
+        return Ok(None);
+    }
+    Ok(Some(Line::Origin(PlainText::of(alloc, text)?)))
 }
 
 /// Whether each byte can stand in a line.

@@ -1,7 +1,7 @@
 //! The top call: words, script, report.
 ghost use Rattle.std.specs.Prelude.{◌≡◌, ◌≢◌, ℕ, List, take, length, IfOk};
 ghost use Rattle.service_core.specs.Counts.{Rose};
-ghost use Rattle.server_program.specs.Statuses.{Says, SaysOf, Written};
+ghost use Rattle.server_program.specs.Statuses.{Says, SaysOf, Written, refused_text};
 ghost use Rattle.server_program.specs.Plan.{plan};
 ghost use Rattle.server_program.specs.Report.{IsReportOf};
 ghost use Rattle.server_program.specs.Text.{text_of};
@@ -12,6 +12,7 @@ use crate::text::Text;
 use crate::words::is_replay;
 use crate::writing::write_all;
 use crate::{ReadError, Reading, Sink, SinkFault, Source, read_script};
+use cors_policy::{ConfigError, CorsInitError};
 use server_run::Host;
 use service_core::Octets;
 use std::alloc::{AllocError, Global};
@@ -37,8 +38,8 @@ struct Answer {
 /// Serves the script that the source gives, and writes the report to the sink. `words` are those of the command line
 /// behind the program's name; the one form for now is `replay`. Returns the program's status:
 ///
-/// 0 served, 2 words that are no form, 3 a line that is not understood or a script that is too long, 4 no listener,
-/// 5 a read failed, 6 a write failed, 7 memory ran out.
+/// 0 served, 2 words that are no form, 3 a line that is not understood or a script that is too long, 4 no listener or
+/// a policy that is refused, 5 a read failed, 6 a write failed, 7 memory ran out.
 pub fn run<Ho: Host, So: Source, Si: Sink>(
     rt: &Ho,
     alloc: Global,
@@ -117,8 +118,19 @@ fn answer_script<Ho: Host>(rt: &Ho, alloc: Global, bytes: &[u8]) -> Result<Answe
             if !script.listening {
                 return Ok(fixed(4, NO_LISTENER));
             }
-            let text = replay(rt, alloc, script)?;
-            Ok(made(0, text))
+            match replay(rt, alloc, script) {
+                Ok(text) => Ok(made(0, text)),
+                Err(CorsInitError::Config(error)) => refused(alloc, error),
+                Err(CorsInitError::Memory) => Err(AllocError),
+            }
         }
     }
+}
+
+// Why no server starts: the policy is refused.
+fn refused(alloc: Global, error: ConfigError) -> Result<Answer, AllocError>
+    ensures { IfOk result (λ answer. (answer.status ≡ 4) × (text_of answer.text ≡ refused_text error)) }
+{
+    let text = format!(in alloc; "startup refused: {error}\n")?;
+    Ok(made(4, Octets::from_vec(text.into_bytes())))
 }

@@ -5,16 +5,16 @@ use service_core::Octets;
 use std::process::Abort;
 use std::test::Fail;
 
-const OK: &str =
+pub(crate) const OK: &str =
     "HTTP/1.1 200 OK\\r\\ncontent-type: text/plain\\r\\nvary: Origin, Access-Control-Request-Method, Access-Control-Request-Headers\\r\\ncontent-length: 12\\r\\n\\r\\nHello world!";
 
 const REFUSED: &str =
     "HTTP/1.1 501 Not Implemented\\r\\ncontent-length: 0\\r\\nconnection: close\\r\\n\\r\\n";
 
-const DRAINED: &str = "listener 0 ended\nend drained\n";
+pub(crate) const DRAINED: &str = "listener 0 ended\nend drained\n";
 
 // The status, and what the sink got.
-fn replayed<Ho: Host>(
+pub(crate) fn replayed<Ho: Host>(
     rt: &Ho,
     words: &[&str],
     script: &[u8],
@@ -33,7 +33,12 @@ fn replayed<Ho: Host>(
 }
 
 // The script's run ends with this status and this text.
-fn expect<Ho: Host + Abort>(rt: &Ho, script: &str, status: u8, text: &str) -> Result<(), Fail> {
+pub(crate) fn expect<Ho: Host + Abort>(
+    rt: &Ho,
+    script: &str,
+    status: u8,
+    text: &str,
+) -> Result<(), Fail> {
     let alloc = rt.alloc();
     let none = Vec::new(alloc);
     let (ended, got) = replayed(rt, &["replay"], script.as_bytes(), none, Vec::new(alloc))?;
@@ -156,4 +161,85 @@ fn behind_the_first_answer_nothing_is_served(rt: HostRuntime) -> Result<(), Fail
     let get = "GET / HTTP/1.1\\r\\nHost: a\\r\\n\\r\\n";
     let twice = format!(in rt.alloc(); "{get}{get}")?;
     expect_answer(&rt, twice.as_str(), answers.as_str())
+}
+
+// The answer to a plain GET whose origin is granted.
+fn granted<Ho: Host>(rt: &Ho, origin: &str) -> Result<String, Fail> {
+    let text = format!(in rt.alloc();
+        "HTTP/1.1 200 OK\\r\\ncontent-type: text/plain\\r\\naccess-control-allow-origin: {origin}\\r\\nvary: Origin, Access-Control-Request-Method, Access-Control-Request-Headers\\r\\ncontent-length: 12\\r\\n\\r\\nHello world!"
+    )?;
+    Ok(text)
+}
+
+// A GET from the origin is answered so under the policy of these lines.
+fn expect_under<Ho: Host + Abort>(
+    rt: &Ho,
+    policy: &str,
+    origin: &str,
+    answer: &str,
+) -> Result<(), Fail> {
+    let alloc = rt.alloc();
+    let script = format!(in alloc;
+        "{policy}listener\nconn 10.0.0.1:5000\ngive GET / HTTP/1.1\\r\\nHost: a\\r\\nOrigin: {origin}\\r\\n\\r\\n\n"
+    )?;
+    let text = format!(in alloc; "0.0 served \"{answer}\"\n{DRAINED}")?;
+    expect(rt, script.as_str(), 0, text.as_str())
+}
+
+#[test]
+fn an_allowed_origin_is_granted(rt: HostRuntime) -> Result<(), Fail> {
+    let origin = "https://a.example";
+    let answer = granted(&rt, origin)?;
+    expect_under(&rt, "origin https://a.example\n", origin, answer.as_str())?;
+    expect_under(
+        &rt,
+        "# two\norigin https://b.example\n\norigin https://a.example\n",
+        origin,
+        answer.as_str(),
+    )
+}
+
+#[test]
+fn an_origin_is_granted_by_all_its_bytes(rt: HostRuntime) -> Result<(), Fail> {
+    let policy = "origin https://a.example\n";
+    expect_under(&rt, policy, "https://b.example", OK)?;
+    expect_under(&rt, policy, "https://a.example.org", OK)?;
+    expect_under(&rt, policy, "https://a.exampl", OK)?;
+    expect_under(&rt, policy, "https://A.example", OK)?;
+    expect_under(&rt, policy, "https://a.example/", OK)
+}
+
+#[test]
+fn odd_origins_are_granted_as_they_are(rt: HostRuntime) -> Result<(), Fail> {
+    let policy = "origin a:b@c\norigin /x\norigin localhost:3000\n";
+    for origin in ["a:b@c", "/x", "localhost:3000"] {
+        let answer = granted(&rt, origin)?;
+        expect_under(&rt, policy, origin, answer.as_str())?;
+    }
+    Ok(())
+}
+
+#[test]
+fn a_refused_policy_starts_nothing(rt: HostRuntime) -> Result<(), Fail> {
+    expect(
+        &rt,
+        "origin *\nlistener",
+        4,
+        "startup refused: `allowed_origin` argument must not be wildcard (`*`)\n",
+    )?;
+    let get = "listener\nconn local\ngive GET / HTTP/1.1\\r\\n\\r\\n\n";
+    let script = format!(in rt.alloc(); "origin https://a.example\norigin a b\norigin *\n{get}")?;
+    expect(
+        &rt,
+        script.as_str(),
+        4,
+        "startup refused: allowed origin is not a URI\n",
+    )?;
+    expect(&rt, "origin *", 4, "startup refused: no listener\n")?;
+    expect(
+        &rt,
+        "origin *\nlistener\norigin /x",
+        3,
+        "script line 3 is not understood\n",
+    )
 }

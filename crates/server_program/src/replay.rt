@@ -1,7 +1,11 @@
 //! A script served over links in memory.
-ghost use Rattle.std.specs.Prelude.{◌≡◌, IfOk, map};
+ghost use Rattle.std.specs.Prelude.{◌≡◌, None, List, [], ◌∷◌, IfOk, IfErr, map};
+ghost use Rattle.std.specs.Arc.{arc_value};
+ghost use Rattle.cors_rules.specs.Refusing.{config_error};
+ghost use Rattle.cors_policy.specs.Transforms.{Refuses};
 ghost use Rattle.server_program.specs.Plan.{plan, planned};
 ghost use Rattle.server_program.specs.Replaying.{IsFresh, Offers};
+ghost use Rattle.server_run.specs.declared.memory_listener.MemoryListener.{MemoryListener};
 ghost use Rattle.server_program.specs.Report.{IsReportOf};
 
 use crate::report::report_text;
@@ -11,31 +15,38 @@ use server_run::{Host, KeepAll, ListenerStep, MemoryLink, MemoryListener, ReadSt
 use service_core::{Link, Octets};
 use std::alloc::{AllocError, Global};
 
-/// Serves the script's connection. Returns the report's text.
-pub(crate) fn replay<Ho: Host>(rt: &Ho, alloc: Global, script: Script) -> Result<Octets, AllocError>
-    ensures { IfOk result (λ text. IsReportOf (plan script) text) }
+/// Serves the script's connection under its policy. Returns the report's text, or why no service was made.
+pub(crate) fn replay<Ho: Host>(
+    rt: &Ho,
+    alloc: Global,
+    script: Script,
+) -> Result<Octets, CorsInitError>
+    ensures starts { IfOk result (λ _. config_error script.cors ≡ None) }
+    ensures report { IfOk result (λ text. IsReportOf (plan script) text) }
+    ensures refused { IfErr result (Refuses script.cors) }
 {
-    let mut listeners = Vec::new(alloc);
-    listeners.push(listener_of(alloc, script.connection)?)?;
+    let mut listeners = listeners_of(alloc, script.connection)?;
     let mut done = KeepAll::new(alloc);
-    let server = server_run::new(alloc)?.run(ReplayFactory);
+    let server = server_run::new(alloc)?.run(ReplayFactory::new(alloc, script.cors)?);
     match server.serve(rt, alloc, &mut listeners, &mut done) {
-        Ok(report) => report_text(alloc, done.entries(), &report),
-        Err(ServeError::Memory) => Err(AllocError),
-        Err(
-            ServeError::Startup {
-                error: CorsInitError::Memory,
-                ..
-            },
-        ) => Err(AllocError),
-        Err(
-            ServeError::Startup {
-                error: CorsInitError::Config(_),
-                ..
-            },
-        ) => unreachable!(),
+        Ok(report) => Ok(report_text(alloc, done.entries(), &report)?),
+        Err(ServeError::Startup { error, .. }) => Err(error),
+        Err(ServeError::Memory) => Err(CorsInitError::Memory),
         Err(ServeError::NoListener) => unreachable!(),
     }
+}
+
+// That listener alone.
+fn listeners_of(
+    alloc: Global,
+    connection: Option<Connection>,
+) -> Result<Vec<MemoryListener>, AllocError>
+    ensures { IfOk result (λ listeners. (listener : MemoryListener) × (listeners.items ≡ listener ∷ [])
+        × Offers ⟦<MemoryLink as Link>⟧ listener (planned connection)) }
+{
+    let mut listeners = Vec::new(alloc);
+    listeners.push(listener_of(alloc, connection)?)?;
+    Ok(listeners)
 }
 
 // The listener that gives the connection, if there is one.

@@ -2,16 +2,20 @@
 ghost use Rattle.std.specs.Prelude.{◌≡◌, ◌==◌, ◌<◌, ◌+◌, ℕ, List, [], length, IfOk, Option};
 ghost use Rattle.std.specs.List.{slice_split};
 ghost use Rattle.std.specs.Option.{option_map};
-ghost use Rattle.server_program.specs.Script.{with_listener, with_connection, with_bytes, with_line, after_line, plan_of};
+ghost use Rattle.server_program.specs.Script.{with_listener, with_origin, with_connection, with_bytes, with_line, after_line, nothing_yet, plan_of};
 ghost use Rattle.server_program.specs.Plan.{plan, reading_of};
 
 use crate::line::{Line, read_line};
+use crate::plain_text::PlainText;
+use cors_policy::{Cors, NoRule};
 use service_core::{Octets, Peer};
 use std::alloc::{AllocError, Global};
 
 /// What a script asks for.
 #[derive(Drop)]
 pub struct Script {
+    /// The policy so far, and its first error.
+    pub cors: Cors<NoRule>,
     /// There is a listener.
     pub listening: bool,
     /// The connection that comes to it.
@@ -38,10 +42,7 @@ pub enum Reading {
 pub fn read_script(alloc: Global, bytes: &[u8]) -> Result<Reading, AllocError>
     ensures { IfOk result (λ reading. reading_of reading ≡ plan_of bytes.now) }
 {
-    let mut script = Script {
-        listening: false,
-        connection: None,
-    };
+    let mut script = Script::new(alloc);
     let mut number = 1;
     for line in bytes.split(|b| *b == b'\n') {
         let Some(next) = after_line(alloc, script, line)? else {
@@ -63,6 +64,17 @@ fn after_line(alloc: Global, script: Script, line: &[u8]) -> Result<Option<Scrip
 }
 
 impl Script {
+    /// A script that asks for nothing yet.
+    pub fn new(alloc: Global) -> Script
+        ensures { plan result ≡ nothing_yet }
+    {
+        Script {
+            cors: Cors::default(alloc),
+            listening: false,
+            connection: None,
+        }
+    }
+
     /// The script with what one more line says. None where the line cannot stand there.
     pub fn with_line(self, alloc: Global, said: Line) -> Result<Option<Script>, AllocError>
         ensures { IfOk result (λ next. option_map plan next ≡ with_line (plan self) said) }
@@ -72,6 +84,7 @@ impl Script {
             Line::Listener => Ok(self.with_listener()),
             Line::Conn(peer) => Ok(self.with_connection(alloc, peer)),
             Line::Give(bytes) => self.with_bytes(&bytes),
+            Line::Origin(origin) => self.with_origin(&origin),
         }
     }
 
@@ -82,9 +95,23 @@ impl Script {
             return None;
         }
         Some(Script {
+            cors: self.cors,
             listening: true,
             connection: self.connection,
         })
+    }
+
+    fn with_origin(self, origin: &PlainText) -> Result<Option<Script>, AllocError>
+        ensures { IfOk result (λ next. option_map plan next ≡ with_origin (plan self) origin.now) }
+    {
+        if self.listening {
+            return Ok(None);
+        }
+        Ok(Some(Script {
+            cors: self.cors.allowed_origin(origin.as_str())?,
+            listening: false,
+            connection: self.connection,
+        }))
     }
 
     fn with_connection(self, alloc: Global, peer: Peer) -> Option<Script>
@@ -94,6 +121,7 @@ impl Script {
             return None;
         }
         Some(Script {
+            cors: self.cors,
             listening: true,
             connection: Some(Connection {
                 peer,
@@ -106,6 +134,7 @@ impl Script {
         ensures { IfOk result (λ next. option_map plan next ≡ with_bytes (plan self) bytes.now) }
     {
         let Script {
+            cors,
             listening,
             connection,
         } = self;
@@ -114,6 +143,7 @@ impl Script {
         };
         connection.held.push_all(bytes.as_bytes())?;
         Ok(Some(Script {
+            cors,
             listening,
             connection: Some(connection),
         }))

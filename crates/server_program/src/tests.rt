@@ -1,6 +1,7 @@
 use crate::memory_sink::MemorySink;
 use crate::memory_source::MemorySource;
 use crate::peer_text::read_peer;
+use crate::plain_text::PlainText;
 use crate::reading::{ReadError, read_whole};
 use crate::script::{Reading, Script, read_script};
 use crate::sink::{Sink, SinkFault};
@@ -8,6 +9,7 @@ use crate::source::{Source, SourceFault};
 use crate::streams::Streams;
 use crate::words::{is_replay, words_of};
 use crate::writing::write_all;
+use cors_policy::ConfigError;
 use service_core::{Octets, Peer};
 use std::alloc::{AllocError, Global};
 use std::test::Fail;
@@ -24,10 +26,7 @@ fn bad_line(alloc: Global, text: &[u8]) -> Result<usize, AllocError> {
 fn script_of(alloc: Global, text: &[u8]) -> Result<Script, AllocError> {
     match read_script(alloc, text)? {
         Reading::Good(script) => Ok(script),
-        Reading::BadLine(_) => Ok(Script {
-            listening: false,
-            connection: None,
-        }),
+        Reading::BadLine(_) => Ok(Script::new(alloc)),
     }
 }
 
@@ -149,6 +148,13 @@ fn the_first_bad_line_is_told_by_its_number(rt: HostRuntime) -> Result<(), Fail>
         (b"listener\nconn local\ngive \\x4g", 3),
         (b"listener\nconn local\ngive \\X41", 3),
         (b"listener\nconn local\ngive a\nbad\nworse", 4),
+        (b"origin https://a.example\norigin *\nlistener", 0),
+        (b"origin", 1),
+        (b"origin ", 1),
+        (b"Origin /x", 1),
+        (b"\norigins /x", 2),
+        (b"listener\norigin /x", 2),
+        (b"origin \xc3\xa4", 1),
     ] {
         assert_eq!(rt; bad_line(alloc, text)?, number);
     }
@@ -218,5 +224,63 @@ fn only_the_one_word_replay_is_replay(rt: HostRuntime) -> Result<(), Fail> {
     assert!(rt; !is_replay(&words));
     assert!(rt; !is_replay(&words[1..]));
     assert!(rt; !is_replay(&words_of(&rt, alloc)?));
+    Ok(())
+}
+
+// The error that the policy of a script keeps.
+fn kept(alloc: Global, text: &[u8]) -> Result<Option<ConfigError>, AllocError> {
+    Ok(script_of(alloc, text)?.cors.error())
+}
+
+#[test]
+fn origin_lines_make_a_policy(rt: HostRuntime) -> Result<(), Fail> {
+    let alloc = rt.alloc();
+    let script = script_of(
+        alloc,
+        b"origin https://b.example\norigin https://a.example\n",
+    )?;
+    let other = script_of(
+        alloc,
+        b"origin https://a.example\n\norigin https://b.example",
+    )?;
+    assert!(rt; script.cors == other.cors);
+    assert!(rt; script.cors != script_of(alloc, b"origin https://a.example")?.cors);
+    assert_eq!(rt; script.cors.error(), None);
+    Ok(())
+}
+
+#[test]
+fn odd_origins_are_kept_or_refused_by_cause(rt: HostRuntime) -> Result<(), Fail> {
+    let alloc = rt.alloc();
+    for (text, error) in [
+        (b"origin a:b@c".as_slice(), None),
+        (b"origin /x", None),
+        (b"origin localhost:3000", None),
+        (b"origin http://[::1]:8080", None),
+        (b"origin HTTPS://A.example", None),
+        (b"origin null", None),
+        (b"origin *", Some(ConfigError::WildcardOrigin)),
+        (
+            b"origin  https://a.example",
+            Some(ConfigError::BadOriginUri),
+        ),
+        (b"origin a b", Some(ConfigError::BadOriginUri)),
+        (b"origin http://", Some(ConfigError::BadOriginUri)),
+        (b"origin a:b:c", Some(ConfigError::BadOriginUri)),
+        (b"origin a b\norigin *", Some(ConfigError::BadOriginUri)),
+        (
+            b"origin *\norigin a b\norigin /x",
+            Some(ConfigError::WildcardOrigin),
+        ),
+    ] {
+        assert_eq!(rt; kept(alloc, text)?, error);
+    }
+    Ok(())
+}
+
+#[test]
+fn a_plain_text_is_its_bytes(rt: HostRuntime) -> Result<(), Fail> {
+    let text = PlainText::of(rt.alloc(), b" a~")?;
+    assert_eq!(rt; text.as_str(), " a~");
     Ok(())
 }

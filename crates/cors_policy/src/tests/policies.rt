@@ -266,3 +266,64 @@ fn a_middleware_is_as_ready_as_its_service(rt: HostRuntime) -> Result<(), Fail> 
     assert!(rt; matches!(ready, Poll::Ready(Ok(()))));
     Ok(())
 }
+
+#[test]
+fn policies_are_equal_by_all_that_they_say(rt: HostRuntime) -> Result<(), Fail> {
+    let alloc = rt.alloc();
+    assert!(rt; plain(alloc) == plain(alloc));
+    assert!(rt; plain(alloc) != plain(alloc).send_wildcard());
+    assert!(rt; plain(alloc) != Cors::<NoRule>::permissive(alloc)?);
+    assert!(rt; Cors::<NoRule>::permissive(alloc)? == Cors::<NoRule>::permissive(alloc)?);
+    assert!(rt; plain(alloc) != plain(alloc).max_age(Some(0)));
+    assert!(rt; plain(alloc) == plain(alloc).allowed_origin("*")?);
+    Ok(())
+}
+
+#[test]
+fn the_order_of_a_builders_calls_is_no_matter(rt: HostRuntime) -> Result<(), Fail> {
+    let alloc = rt.alloc();
+    let one = plain(alloc)
+        .allowed_origin("https://a.example")?
+        .allowed_origin("https://b.example")?;
+    let other = plain(alloc)
+        .allowed_origin("https://b.example")?
+        .allowed_origin("https://a.example")?
+        .allowed_origin("https://b.example")?;
+    assert!(rt; one == other);
+    assert!(rt; *one.policy() == *other.policy());
+    assert!(rt; one != plain(alloc).allow_any_origin());
+    Ok(())
+}
+
+// Many origins, of which this is the last.
+const LAST_OF_MANY: &str = "https://host-999.example";
+
+fn many_origins(alloc: Global) -> Result<Cors<NoRule>, AllocError> {
+    let mut cors = plain(alloc);
+    for k in 0..1000 {
+        let origin = format!(in alloc; "https://host-{k}.example")?;
+        cors = cors.allowed_origin(origin.as_str())?;
+    }
+    Ok(cors)
+}
+
+#[test]
+fn the_last_of_a_thousand_origins_is_granted(rt: HostRuntime) -> Result<(), Fail> {
+    let alloc = rt.alloc();
+    let task = MockTask::new(&rt)?;
+    let cors = many_origins(alloc)?;
+    assert_eq!(rt; cors.error(), None);
+    let fields = [("Origin", LAST_OF_MANY)];
+    let parts = [
+        "R",
+        "T",
+        "access-control-allow-origin: https://host-999.example\r\n",
+        "V",
+        "H",
+    ];
+    assert!(rt; answers(&task, alloc, &cors, (Method::GET, &fields), &parts)?);
+    let fields = [("Origin", "https://host-1000.example")];
+    let parts = ["R", "T", "V", "H"];
+    assert!(rt; answers(&task, alloc, &cors, (Method::GET, &fields), &parts)?);
+    Ok(())
+}

@@ -1,0 +1,69 @@
+//! The service that stands under the policy.
+ghost use Rattle.std.specs.Prelude.{◌≡◌, ◌∷◌, [], None, IfOk, codes};
+ghost use Rattle.service_core.specs.Meaning.{GivesOnly};
+
+use futures::Future;
+use futures::task::{Context, Poll};
+use http_header::CONTENT_TYPE;
+use http1_plain::{ErrorResponse, FieldValue, Request, Response};
+use service_core::{Ready, Service, err, ok};
+use std::alloc::{AllocError, Global};
+
+/// It answers each request with `Hello world!` as plain text.
+#[derive(Drop)]
+pub struct Hello {
+    pub alloc: Global,
+}
+
+/// Memory ran out.
+#[derive(Drop)]
+pub struct HelloFault;
+
+impl ErrorResponse for HelloFault {
+    ghost response = { λ _. None };
+
+    fn into_response(self, _alloc: Global) -> Result<Response, AllocError> {
+        Err(AllocError)
+    }
+}
+
+// The response to every request.
+fn response(alloc: Global) -> Result<Response, AllocError>
+    ensures { IfOk result (λ r. r ≡ record {
+      status = 200;
+      headers = (codes "content-type", codes "text/plain") ∷ [];
+      body = codes "Hello world!";
+    }) }
+{
+    let mut response = Response::text(alloc, 200, "Hello world!")?;
+    let value = FieldValue::of_field_bytes(alloc, b"text/plain")?;
+    response.headers_mut().append(CONTENT_TYPE, value)?;
+    Ok(response)
+}
+
+impl Service<Request> for Hello {
+    type Response = Response;
+
+    type Error = HelloFault;
+
+    type Future = Ready<Result<Response, HelloFault>>;
+
+    ghost may = { λ _ _ _. Unit {0} };
+
+    ghost may_ready = { λ _ _. Unit {0} };
+
+    ghost may_begin = { λ _ _ f. GivesOnly ⟦<Ready<Result<Response, HelloFault>> as Future>⟧ f (λ _. Unit {0}) };
+
+    ghost begun_gives = { λ s q f h. h };
+
+    fn poll_ready(&self, _cx: &mut Context<'_>) -> Poll<Result<(), HelloFault>> {
+        Poll::Ready(Ok(()))
+    }
+
+    fn call(&self, _req: Request) -> Ready<Result<Response, HelloFault>> {
+        match response(self.alloc) {
+            Ok(response) => ok(response),
+            Err(_) => err(HelloFault),
+        }
+    }
+}

@@ -1,0 +1,50 @@
+//! Asks a service under a policy of many origins for its answer many times over, and prints how many answers a page
+//! may read. How long it takes shows how long an origin is looked up.
+#![tactic(auto)]
+
+mod asking;
+mod failure;
+mod hello;
+mod size;
+
+use asking::granted;
+use failure::Failure;
+use size::{Size, words_of};
+use std::alloc::AllocGlobal;
+use std::io;
+use std::process::ExitCode;
+use std::random::RandomSource;
+use std::rt::Env;
+use std::sync::Wait;
+
+const USAGE: &str = "usage: cors_bench ORIGINS REQUESTS";
+
+// Prints a line. The status is the one given, or that of a write that failed.
+fn print<R: Print>(rt: &R, text: &str, status: u8) -> u8 {
+    match println!(rt; "{text}") {
+        Ok(()) => status,
+        Err(_) => 6,
+    }
+}
+
+// Asks as often as the words say, and prints how many were granted.
+fn run<R>(rt: &R) -> Result<u8, Failure>
+where
+    R: Wait + RandomSource + AllocGlobal + Env + Print,
+{
+    let Some(size) = Size::of_words(&words_of(rt)?) else {
+        return Ok(print(rt, USAGE, 2));
+    };
+    let alloc = rt.alloc();
+    let count = granted(rt, size)?;
+    let text = format!(in alloc; "granted {count} of {}", size.requests)?;
+    Ok(print(rt, &text, 0))
+}
+
+fn main(rt: HostRuntime) -> ExitCode {
+    match run(&rt) {
+        Ok(status) => ExitCode::from(status),
+        Err(Failure::Memory) => ExitCode::from(print(&rt, "out of memory", 7)),
+        Err(Failure::Refused) => ExitCode::from(print(&rt, "the policy is refused", 1)),
+    }
+}
