@@ -1,7 +1,7 @@
 //! Errors in words, and sets.
 use crate::laws::{
     credentials_have_no_wildcard, equality_is_an_equivalence, grants_stand_alone,
-    requests_with_no_origin_pass, uris_are_those_of_http_uri,
+    only_granted_origins_are_told, requests_with_no_origin_pass, uris_are_those_of_http_uri,
 };
 use crate::{AllOrSome, ConfigError, CorsError};
 use std::test::Fail;
@@ -54,5 +54,6 @@ fn laws_can_be_called() {
     grants_stand_alone::<u8>();
     credentials_have_no_wildcard::<u8>();
     equality_is_an_equivalence::<u8>();
+    only_granted_origins_are_told::<u8, u8>();
     uris_are_those_of_http_uri();
 }
