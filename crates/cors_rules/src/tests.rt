@@ -1,7 +1,8 @@
 //! Errors in words, and sets.
 use crate::laws::{
     credentials_have_no_wildcard, equality_is_an_equivalence, grants_stand_alone,
-    only_granted_origins_are_told, requests_with_no_origin_pass, uris_are_those_of_http_uri,
+    only_granted_origins_are_told, refusals_have_their_causes, requests_with_no_origin_pass,
+    uris_are_those_of_http_uri,
 };
 use crate::{AllOrSome, ConfigError, CorsError};
 use std::test::Fail;
@@ -55,5 +56,6 @@ fn laws_can_be_called() {
     credentials_have_no_wildcard::<u8>();
     equality_is_an_equivalence::<u8>();
     only_granted_origins_are_told::<u8, u8>();
+    refusals_have_their_causes::<u8>();
     uris_are_those_of_http_uri();
 }
