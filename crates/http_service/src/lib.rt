@@ -8,9 +8,13 @@ mod fill;
 mod flush;
 mod h1_service_handler;
 mod h1_service_handler_response;
+#[cfg(test)]
+mod head_tests;
 mod inner_dispatcher;
 mod laws;
-mod plain_get;
+#[cfg(test)]
+mod plain_definition;
+mod plain_request;
 mod respond;
 mod terms;
 #[cfg(test)]
@@ -21,4 +25,4 @@ mod tests;
 pub use dispatcher::Dispatcher;
 pub use h1_service_handler::H1ServiceHandler;
 pub use h1_service_handler_response::H1ServiceHandlerResponse;
-pub use laws::{more_is_refused, one_plain_get, refusal_text, served_writes};
+pub use laws::{more_is_refused, one_plain_request, refusal_text, served_writes};

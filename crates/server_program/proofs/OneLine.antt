@@ -3,9 +3,10 @@ use Rattle.std.proofs.Common.{◌≡◌, ◌==◌, ℕ, true, false, nat_eq, Lis
 use Rattle.std.specs.List.{starts_with, list_all}
 use Rattle.std.specs.Str.{bytes_eq}
 use Rattle.std.specs.Option.{option_and_then, option_map}
-use Rattle.server_program.specs.declared.line.Line.TheVariants.{Conn, Give, Origin}
+use Rattle.server_program.specs.declared.line.Line.TheVariants.{Conn, Give, Policy}
 use Rattle.server_program.specs.Plain.{is_plain}
-use Rattle.server_program.specs.Script.{line_of, peer_of, some_text, text_bytes}
+use Rattle.server_program.specs.PolicyText.{policy_line, some_text}
+use Rattle.server_program.specs.Script.{line_of, peer_of, text_bytes}
 
 module _ (line : List ℕ) (plain : list_all is_plain line ≡ true) (some : (length line == 0) ≡ false) (text : starts_with nat_eq line (codes "#") ≡ false)
     (other : bytes_eq line (codes "listener") ≡ false) where
@@ -16,6 +17,6 @@ module _ (line : List ℕ) (plain : list_all is_plain line ≡ true) (some : (le
       → option_map Give (option_and_then text_bytes (some_text (drop 5 line))) ≡ line_of line
   give_line conn give = rw (plain, some, text, other, conn, give)
 
-  pub origin_line : starts_with nat_eq line (codes "conn ") ≡ false → starts_with nat_eq line (codes "give ") ≡ false
-      → starts_with nat_eq line (codes "origin ") ≡ true → option_map Origin (some_text (drop 7 line)) ≡ line_of line
-  origin_line conn give origin = rw (plain, some, text, other, conn, give, origin)
+  pub other_line : starts_with nat_eq line (codes "conn ") ≡ false → starts_with nat_eq line (codes "give ") ≡ false
+      → option_map Policy (policy_line line) ≡ line_of line
+  other_line conn give = rw (plain, some, text, other, conn, give)

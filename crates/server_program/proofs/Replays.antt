@@ -18,7 +18,7 @@ use Rattle.server_run.specs.declared.report.Report.{Report}
 use Rattle.server_program.specs.Replaying.{IsFresh, Offers}
 use Rattle.server_program.specs.Report.{IsReportOf, report_of}
 use Rattle.cors_rules.specs.Policy.{Policy}
-use Rattle.cors_policy.specs.declared.rule.NoRule.{NoRule}
+use Rattle.server_program.specs.declared.script_rule.ScriptRule.{ScriptRule}
 use Rattle.server_program.specs.Script.{Plan}
 use Rattle.server_program.specs.Serving.{LeavesScript, ServesScript}
 use Rattle.server_program.specs.declared.script.Connection.{Connection}
@@ -42,13 +42,13 @@ module _ (g : LinkOf MemoryLink) where
   module _ (writes : (link : MemoryLink) → g.written link ≡ Some link.written)
       (few : (link : MemoryLink) → FailsAtMost (g.identity link) (g.read_faults link) (g.write_faults link)) where
     -- the text that a run under the script's policy printed
-    pub ran : (plan : Plan) (policy : Policy NoRule) → policy ≡ plan.cors.policy → (kept : List (Entry MemoryLink)) (report : Report) (old : MemoryListener) (before new : List MemoryListener)
+    pub ran : (plan : Plan) (policy : Policy ScriptRule) → policy ≡ plan.cors.policy → (kept : List (Entry MemoryLink)) (report : Report) (old : MemoryListener) (before new : List MemoryListener)
         (text : List ℕ) → text ≡ report_of kept report → Offers g old plan.connection → before ≡ old ∷ []
         → (entries : List (Entry MemoryLink)) → Some kept ≡ option_map (λ xs. xs ++ entries) (Some [])
         → Delivers given_of left_of g.identity (λ token. ServesScript policy g) (λ token. LeavesScript policy g) before new entries
         → Tells ended_of new report → IsReportOf plan text
     ran plan policy same kept report old before new text printed offers one entries is delivers told =
-        let under = subst (λ (p : Policy NoRule). Delivers given_of left_of g.identity (λ token. ServesScript p g) (λ token. LeavesScript p g) before new entries) same delivers in
+        let under = subst (λ (p : Policy ScriptRule). Delivers given_of left_of g.identity (λ token. ServesScript p g) (λ token. LeavesScript p g) before new entries) same delivers in
         report_is g writes few plan text entries report old new offers
         (subst (λ (ls : List MemoryListener). Delivers given_of left_of g.identity (λ token. ServesScript plan.cors.policy g) (λ token. LeavesScript plan.cors.policy g) ls new entries) one under)
         told (printed ∙ ap (λ (es : List (Entry MemoryLink)). report_of es report) (same_Some _ _ is))

@@ -13,11 +13,11 @@ use Rattle.http_service.specs.Ending.{WroteBy}
 use Rattle.http_service.specs.Requests.{IsFunction, served}
 use Rattle.server_run.specs.Creating.{OnlyEnds}
 use Rattle.cors_rules.specs.Policy.{Policy}
-use Rattle.cors_policy.specs.declared.rule.NoRule.{NoRule}
+use Rattle.server_program.specs.declared.script_rule.ScriptRule.{ScriptRule}
 use Rattle.server_program.specs.Policed.{IsPoliced}
 use Rattle.server_program.specs.Serving.{ServesScript, default_limits}
 
-module _ {L M F : Type 0} (g : LinkOf L) (mg : ServiceOf M Request Response CorsFault F) (policy : Policy NoRule) (policed : M) (is : IsPoliced mg policy policed) where
+module _ {L M F : Type 0} (g : LinkOf L) (mg : ServiceOf M Request Response CorsFault F) (policy : Policy ScriptRule) (policed : M) (is : IsPoliced mg policy policed) where
   -- an end that the service of connections may give, over the policed service of requests
   pub serves : (limits : Limits) → limits ≡ default_limits → (link : L) (r : Result (Ended L) CorsFault)
       → MayServe g mg fault_response policed limits link r → OnlyEnds (ServesScript policy g link) r

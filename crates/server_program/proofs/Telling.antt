@@ -27,7 +27,7 @@ use Rattle.server_run.specs.declared.report.ListenerState.{ListenerState}
 use Rattle.server_run.specs.declared.report.ListenerState.TheVariants.{Ended, Open}
 use Rattle.server_run.specs.declared.report.Report.{Report}
 use Rattle.cors_rules.specs.Policy.{Policy}
-use Rattle.cors_policy.specs.declared.rule.NoRule.{NoRule}
+use Rattle.server_program.specs.declared.script_rule.ScriptRule.{ScriptRule}
 use Rattle.server_program.specs.Hello.{hello_under}
 use Rattle.server_program.specs.Replaying.{IsFresh, Offers}
 use Rattle.server_program.specs.Report.{IsCutShort, IsReportOf, connection_lines, end_line, entry_line, line_of, report_of, state_line, state_lines}
@@ -49,7 +49,7 @@ ended_of listener = listener.ended
 none_rose : (before after most : ℕ) → Rose before after → after ≤ most → most ≡ 0 → ⊥
 none_rose before after most rose few none = omega arith
 
-module _ (policy : Policy NoRule) (g : LinkOf MemoryLink) (peer : Peer) (held : List ℕ) where
+module _ (policy : Policy ScriptRule) (g : LinkOf MemoryLink) (peer : Peer) (held : List ℕ) where
   -- what stands in the entry of the connection
   abbrev pub IsWhole : MemoryLink → Outcome → Type 0
   IsWhole back out = (out ≡ outcome.Served) × (back.written ≡ (answers_of policy peer held).0)

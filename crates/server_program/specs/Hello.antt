@@ -3,10 +3,10 @@ use Rattle.std.specs.Prelude.{◌≡◌, ◌⊎◌, false, [], ◌∷◌, Option
 use Rattle.http1_grammar.specs.Wire.{Response}
 use Rattle.http1_grammar.specs.Answers.{Request}
 use Rattle.service_core.specs.declared.peer.Peer.{Peer}
-use Rattle.cors_rules.specs.Origins.{Rules}
+use Rattle.server_program.specs.Rules.{script_rules}
 use Rattle.cors_rules.specs.Policy.{Policy}
 use Rattle.cors_rules.specs.Answers.{cors}
-use Rattle.cors_policy.specs.declared.rule.NoRule.{NoRule}
+use Rattle.server_program.specs.declared.script_rule.ScriptRule.{ScriptRule}
 use Rattle.server_program.specs.declared.handler_fault.HandlerFault.{HandlerFault}
 use Rattle.server_program.specs.declared.handler_fault.HandlerFault.TheVariants.{Memory}
 
@@ -23,10 +23,6 @@ hello_response =
 abbrev pub HelloGives : Result Response HandlerFault → Type 0
 HelloGives r = (r ≡ Ok hello_response) ⊎ (r ≡ Err Memory)
 
--- there are no rules
-abbrev pub no_rules : Rules NoRule
-no_rules rule origin head = false
-
 -- `hello` under the policy
-abbrev pub hello_under : Policy NoRule → Request Peer → Response
-hello_under policy request = cors no_rules policy (λ (asked : Request Peer). hello_response) request
+abbrev pub hello_under : Policy ScriptRule → Request Peer → Response
+hello_under policy request = cors script_rules policy (λ (asked : Request Peer). hello_response) request

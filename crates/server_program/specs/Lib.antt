@@ -1,4 +1,7 @@
+pub mod Rules
 pub mod Hello
+pub mod Numbers
+pub mod PolicyText
 pub mod Plain
 pub mod Plan
 pub mod Policed

@@ -13,7 +13,7 @@ abbrev pub planned : Option Connection → Option (Peer × List ℕ)
 planned connection = option_map (λ c. (c.peer, c.held)) connection
 
 abbrev pub plan : Script → Plan
-plan script = record { cors = script.cors; listening = script.listening; connection = planned script.connection }
+plan script = record { cors = script.cors; has_policy = script.has_policy; listening = script.listening; connection = planned script.connection }
 
 abbrev pub reading_of : Reading → Result Plan ℕ
 reading_of (Good script) = Ok (plan script)

@@ -12,7 +12,7 @@ use Rattle.server_run.specs.declared.report.End.TheVariants.{Drained, Memory as 
 use Rattle.server_run.specs.declared.report.ListenerState.{ListenerState}
 use Rattle.server_run.specs.declared.report.ListenerState.TheVariants.{Ended, Open}
 use Rattle.cors_rules.specs.Policy.{Policy}
-use Rattle.cors_policy.specs.declared.rule.NoRule.{NoRule}
+use Rattle.server_program.specs.declared.script_rule.ScriptRule.{ScriptRule}
 use Rattle.server_program.specs.Script.{Plan}
 use Rattle.server_program.specs.Serving.{answers_of}
 
@@ -63,7 +63,7 @@ abbrev pub report_of : List (Entry MemoryLink) → Report → List ℕ
 report_of entries report = flat_map entry_line entries ++ (state_lines 0 report.listeners.items ++ end_line report.end)
 
 -- the line of the script's connection: it was served, and was written the answers to the bytes that it gave
-abbrev pub connection_lines : Policy NoRule → Option (Peer × List ℕ) → List ℕ
+abbrev pub connection_lines : Policy ScriptRule → Option (Peer × List ℕ) → List ℕ
 connection_lines policy None = []
 connection_lines policy (Some (peer, held)) = line_of 0 0 Served (answers_of policy peer held).0
 
@@ -72,7 +72,7 @@ abbrev pub report_text : Plan → List ℕ
 report_text plan = connection_lines plan.cors.policy plan.connection ++ (state_line 0 Ended ++ end_line Drained)
 
 -- memory ran out while the connection was served: a front of its answers was written
-pub record IsCutShort (policy : Policy NoRule) (connection : Option (Peer × List ℕ)) (lines : List ℕ) : Type 0 where
+pub record IsCutShort (policy : Policy ScriptRule) (connection : Option (Peer × List ℕ)) (lines : List ℕ) : Type 0 where
   pub peer : Peer
   pub held : List ℕ
   pub is : connection ≡ Some (peer, held)

@@ -7,10 +7,12 @@ use Rattle.service_core.specs.declared.peer.Peer.{Peer}
 use Rattle.service_core.specs.declared.peer.Peer.TheVariants.{V4, Local}
 use Rattle.server_program.specs.Plain.{is_plain}
 use Rattle.server_program.specs.declared.line.Line.{Line}
-use Rattle.cors_rules.specs.Building.{and_origin}
 use Rattle.cors_rules.specs.Policy.{Builder, fresh}
-use Rattle.cors_policy.specs.declared.rule.NoRule.{NoRule}
-use Rattle.server_program.specs.declared.line.Line.TheVariants.{Skip, Listener, Conn, Give, Origin}
+use Rattle.server_program.specs.Numbers.{number_to}
+use Rattle.server_program.specs.PolicyText.{and_line, is_permissive, policy_line, some_text}
+use Rattle.server_program.specs.declared.policy_line.PolicyLine.{PolicyLine}
+use Rattle.server_program.specs.declared.script_rule.ScriptRule.{ScriptRule}
+use Rattle.server_program.specs.declared.line.Line.TheVariants.{Skip, Listener, Conn, Give, Policy}
 
 -- ---- the text of a `give` line
 
@@ -46,24 +48,6 @@ text_bytes (b ∷ c ∷ d ∷ e ∷ rest) =
 
 -- ---- the peer of a `conn` line
 
-abbrev pub is_digit : ℕ → Bool
-is_digit c = nat_le 48 c && nat_le c 57
-
--- the value of decimal digits behind those of a value
-abbrev pub decimal_from : ℕ → List ℕ → ℕ
-decimal_from value [] = value
-decimal_from value (d ∷ ds) = decimal_from (value * 10 + (d - 48)) ds
-
--- decimal digits with no zero before others
-abbrev pub is_decimal : List ℕ → Bool
-is_decimal digits =
-    if (length digits == 0) || (starts_with nat_eq digits (codes "0") && nat_lt 1 (length digits)) then false
-    else list_all is_digit digits
-
--- the decimal number that a text writes, where it is no greater than `most`
-abbrev pub number_to : ℕ → List ℕ → Option ℕ
-number_to most text = if is_decimal text && nat_le (decimal_from 0 text) most then Some (decimal_from 0 text) else None
-
 -- what stands before the first b of a text and what stands behind it, where there is one
 abbrev pub cut_at : ℕ → List ℕ → Option (List ℕ × List ℕ)
 cut_at b text =
@@ -95,10 +79,6 @@ peer_of text = if bytes_eq text (codes "local") then Some Local else v4_of text
 
 -- ---- lines
 
--- the text behind the first word of a line, which isn't empty
-abbrev pub some_text : List ℕ → Option (List ℕ)
-some_text text = if length text == 0 then None else Some text
-
 -- what a line says, or none where it isn't of the grammar
 abbrev pub line_of : List ℕ → Option Line
 line_of line =
@@ -107,26 +87,29 @@ line_of line =
     else if bytes_eq line (codes "listener") then Some Listener
     else if starts_with nat_eq line (codes "conn ") then option_map Conn (peer_of (drop 5 line))
     else if starts_with nat_eq line (codes "give ") then option_map Give (option_and_then text_bytes (some_text (drop 5 line)))
-    else if starts_with nat_eq line (codes "origin ") then option_map Origin (some_text (drop 7 line))
-    else None
+    else option_map Policy (policy_line line)
 
 -- ---- the plan
 
--- the builder of the policy, whether there is a listener, and its connection: a peer and the bytes that it gives
+-- the builder of the policy and whether a line spoke of it, whether there is a listener, and its connection: a peer and
+-- the bytes that it gives
 pub record Plan : Type 0 where
-  pub cors : Builder NoRule
+  pub cors : Builder ScriptRule
+  pub has_policy : Bool
   pub listening : Bool
   pub connection : Option (Peer × List ℕ)
 
 abbrev pub nothing_yet : Plan
-nothing_yet = record { cors = fresh; listening = false; connection = None }
+nothing_yet = record { cors = fresh; has_policy = false; listening = false; connection = None }
 
 abbrev pub with_listener : Plan → Option Plan
 with_listener plan = if plan.listening then None else Some (record plan { listening = true })
 
--- one more origin, which stands before the listener
-abbrev pub with_origin : Plan → List ℕ → Option Plan
-with_origin plan text = if plan.listening then None else Some (record plan { cors = and_origin plan.cors text })
+-- one more policy line, which stands before the listener; one that allows everything stands before every other
+abbrev pub with_policy : Plan → PolicyLine → Option Plan
+with_policy plan line =
+    if plan.listening || (is_permissive line && plan.has_policy) then None
+    else Some (record plan { cors = and_line plan.cors line; has_policy = true })
 
 abbrev pub with_connection : Plan → Peer → Option Plan
 with_connection plan peer = if plan.listening && is_none plan.connection then Some (record plan { connection = Some (peer, []) }) else None
@@ -140,7 +123,7 @@ with_line plan Skip = Some plan
 with_line plan Listener = with_listener plan
 with_line plan (Conn peer) = with_connection plan peer
 with_line plan (Give bytes) = with_bytes plan bytes
-with_line plan (Origin text) = with_origin plan text
+with_line plan (Policy line) = with_policy plan line
 
 abbrev pub after_line : Plan → List ℕ → Option Plan
 after_line plan line = option_and_then (λ said. with_line plan said) (line_of line)

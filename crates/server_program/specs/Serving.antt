@@ -9,7 +9,7 @@ use Rattle.service_core.specs.declared.peer.Peer.{Peer}
 use Rattle.http_service.specs.Ending.{Ends}
 use Rattle.http_service.specs.Requests.{Handler, served}
 use Rattle.cors_rules.specs.Policy.{Policy}
-use Rattle.cors_policy.specs.declared.rule.NoRule.{NoRule}
+use Rattle.server_program.specs.declared.script_rule.ScriptRule.{ScriptRule}
 use Rattle.server_program.specs.Hello.{hello_under}
 
 -- the limits that a connection has by default
@@ -17,10 +17,10 @@ abbrev pub default_limits : Limits
 default_limits = record { head = 32768; body = 1048576 }
 
 -- what a connection of this peer that gives these bytes is answered under the policy
-abbrev pub answers_of : Policy NoRule → Peer → List ℕ → Answers
+abbrev pub answers_of : Policy ScriptRule → Peer → List ℕ → Answers
 answers_of policy peer bytes = served default_limits peer (hello_under policy) bytes
 
-module _ {L : Type 0} (policy : Policy NoRule) (g : LinkOf L) (link : L) where
+module _ {L : Type 0} (policy : Policy ScriptRule) (g : LinkOf L) (link : L) where
   -- an end that the service may give to the link as it was given
   abbrev pub ServesScript : Ended L → Type 0
   ServesScript ended =

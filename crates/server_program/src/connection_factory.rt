@@ -13,7 +13,8 @@ ghost use Rattle.server_program.specs.Policed.{IsPoliced};
 ghost use Rattle.server_program.specs.Serving.{default_limits, LeavesScript, ServesScript};
 
 use crate::Hello;
-use cors_policy::{Cors, CorsFault, CorsInitError, CorsMiddleware, NoRule};
+use crate::script_rule::ScriptRule;
+use cors_policy::{Cors, CorsFault, CorsInitError, CorsMiddleware};
 use futures::Future;
 use http_service::{H1ServiceHandler, H1ServiceHandlerResponse};
 use http1_plain::{Limits, Request};
@@ -26,13 +27,13 @@ use std::sync::Arc;
 pub struct ConnectionFactory {
     pub alloc: Global,
     /// The policy's builder, and the error that it keeps.
-    pub cors: Arc<Cors<NoRule>>,
+    pub cors: Arc<Cors<ScriptRule>>,
 }
 
 impl ConnectionFactory {
     // The service of requests.
-    fn policed(&self) -> Result<CorsMiddleware<Hello, NoRule>, CorsInitError>
-        ensures ok { IfOk result (IsPoliced ⟦<CorsMiddleware<Hello, NoRule> as Service<Request>>⟧ (arc_value self.now.cors).policy) }
+    fn policed(&self) -> Result<CorsMiddleware<Hello, ScriptRule>, CorsInitError>
+        ensures ok { IfOk result (IsPoliced ⟦<CorsMiddleware<Hello, ScriptRule> as Service<Request>>⟧ (arc_value self.now.cors).policy) }
         ensures made { IfOk result (λ _. config_error (arc_value self.now.cors) ≡ None) }
         ensures err { IfErr result (Refuses (arc_value self.now.cors)) }
     {
@@ -48,19 +49,19 @@ impl<L: Link> ServiceFactory<L> for ConnectionFactory {
 
     type Config = ();
 
-    type Service = H1ServiceHandler<CorsMiddleware<Hello, NoRule>>;
+    type Service = H1ServiceHandler<CorsMiddleware<Hello, ScriptRule>>;
 
     type InitError = CorsInitError;
 
-    type Future = Ready<Result<H1ServiceHandler<CorsMiddleware<Hello, NoRule>>, CorsInitError>>;
+    type Future = Ready<Result<H1ServiceHandler<CorsMiddleware<Hello, ScriptRule>>, CorsInitError>>;
 
     ghost may = { λ f _ link r. OnlyEnds (ServesScript (arc_value f.cors).policy L.Link link) r };
 
     ghost may_ready = { λ _ _ answer. answer ≡ PollReady (Ok tt) };
 
     ghost may_begin = { λ f _ link future.
-        GivesOnly ⟦<H1ServiceHandlerResponse<L, CorsMiddleware<Hello, NoRule>> as Future>⟧ future (OnlyEnds (ServesScript (arc_value f.cors).policy L.Link link))
-        × Within (⟦<H1ServiceHandlerResponse<L, CorsMiddleware<Hello, NoRule>> as LinkHolder<L>>⟧.may_stand future) (LeavesScript (arc_value f.cors).policy L.Link link) };
+        GivesOnly ⟦<H1ServiceHandlerResponse<L, CorsMiddleware<Hello, ScriptRule>> as Future>⟧ future (OnlyEnds (ServesScript (arc_value f.cors).policy L.Link link))
+        × Within (⟦<H1ServiceHandlerResponse<L, CorsMiddleware<Hello, ScriptRule>> as LinkHolder<L>>⟧.may_stand future) (LeavesScript (arc_value f.cors).policy L.Link link) };
 
     ghost may_init = { λ f _ error. Refuses (arc_value f.cors) error };
 
@@ -71,7 +72,7 @@ impl<L: Link> ServiceFactory<L> for ConnectionFactory {
     fn new_service(
         &self,
         _cfg: (),
-    ) -> Ready<Result<H1ServiceHandler<CorsMiddleware<Hello, NoRule>>, CorsInitError>> {
+    ) -> Ready<Result<H1ServiceHandler<CorsMiddleware<Hello, ScriptRule>>, CorsInitError>> {
         match self.policed() {
             Err(error) => err(error),
             Ok(policed) => {

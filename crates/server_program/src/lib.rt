@@ -2,6 +2,7 @@
 #![tactic(auto)]
 
 mod connection_factory;
+mod decimal;
 mod escapes;
 #[cfg(test)]
 mod fault_tests;
@@ -12,6 +13,10 @@ mod memory_sink;
 mod memory_source;
 mod peer_text;
 mod plain_text;
+mod policy_line;
+#[cfg(test)]
+mod policy_tests;
+mod policy_text;
 mod program;
 #[cfg(test)]
 mod program_tests;
@@ -20,6 +25,7 @@ mod replay;
 mod replay_factory;
 mod report;
 mod script;
+mod script_rule;
 mod sink;
 mod source;
 mod streams;
@@ -36,11 +42,14 @@ pub use line::{Line, read_line};
 pub use memory_sink::MemorySink;
 pub use memory_source::MemorySource;
 pub use plain_text::PlainText;
+pub use policy_line::PolicyLine;
+pub use policy_text::read_policy_line;
 pub use program::run;
 pub use reading::{MAX_SCRIPT, ReadError, read_whole};
 pub use replay_factory::ReplayFactory;
 pub use report::report_text;
 pub use script::{Connection, Reading, Script, read_script};
+pub use script_rule::ScriptRule;
 pub use sink::{Sink, SinkFault};
 pub use source::{Source, SourceFault};
 pub use streams::Streams;

@@ -3,12 +3,14 @@ ghost use Rattle.std.specs.Prelude.{◌≡◌, true, IfOk};
 ghost use Rattle.std.specs.List.{list_all};
 ghost use Rattle.std.specs.Option.{option_and_then, option_map};
 ghost use Rattle.server_program.specs.Plain.{is_plain};
-ghost use Rattle.server_program.specs.Script.{line_of, peer_of, some_text, text_bytes};
-ghost use Rattle.server_program.specs.declared.line.Line.TheVariants.{Conn, Give, Origin};
+ghost use Rattle.server_program.specs.PolicyText.{policy_line, some_text};
+ghost use Rattle.server_program.specs.Script.{line_of, peer_of, text_bytes};
+ghost use Rattle.server_program.specs.declared.line.Line.TheVariants.{Conn, Give, Policy};
 
 use crate::escapes::unescaped;
 use crate::peer_text::read_peer;
-use crate::plain_text::PlainText;
+use crate::policy_line::PolicyLine;
+use crate::policy_text::read_policy_line;
 use service_core::{Octets, Peer};
 use std::alloc::{AllocError, Global};
 
@@ -23,8 +25,8 @@ pub enum Line {
     Conn(Peer),
     /// The connection gives these bytes.
     Give(Octets),
-    /// The policy allows this origin.
-    Origin(PlainText),
+    /// What it says of the policy.
+    Policy(PolicyLine),
 }
 
 /// What a line says. None where it is not of the grammar.
@@ -46,10 +48,7 @@ pub fn read_line(alloc: Global, line: &[u8]) -> Result<Option<Line>, AllocError>
     if line.starts_with(b"give ".as_slice()) {
         return read_give(alloc, &line[5..]);
     }
-    if line.starts_with(b"origin ".as_slice()) {
-        return read_origin(alloc, &line[7..]);
-    }
-    Ok(None)
+    Ok(read_policy_line(alloc, line)?.map(Line::Policy))
 }
 
 fn read_conn(text: &[u8]) -> Option<Line>
@@ -69,16 +68,6 @@ fn read_give(alloc: Global, text: &[u8]) -> Result<Option<Line>, AllocError>
         return Ok(None);
     };
     Ok(Some(Line::Give(bytes)))
-}
-
-fn read_origin(alloc: Global, text: &[u8]) -> Result<Option<Line>, AllocError>
-    requires { list_all is_plain text.now ≡ true }
-    ensures { IfOk result (λ said. said ≡ option_map Origin (some_text text.now)) }
-{
-    if text.is_empty() {
-        return Ok(None);
-    }
-    Ok(Some(Line::Origin(PlainText::of(alloc, text)?)))
 }
 
 /// Whether each byte can stand in a line.

@@ -7,7 +7,8 @@ ghost use Rattle.cors_policy.specs.Transforms.{Refuses};
 ghost use Rattle.server_program.specs.Serving.{LeavesScript, ServesScript};
 
 use crate::ConnectionFactory;
-use cors_policy::{Cors, NoRule};
+use crate::script_rule::ScriptRule;
+use cors_policy::Cors;
 use server_run::ServerServiceFactory;
 use service_core::Link;
 use std::alloc::{AllocError, Global};
@@ -16,12 +17,12 @@ use std::sync::Arc;
 /// Makes, for every listener, connections that are served by `hello` under one policy, if that is not refused.
 #[derive(Drop)]
 pub struct ReplayFactory {
-    pub(crate) cors: Arc<Cors<NoRule>>,
+    pub(crate) cors: Arc<Cors<ScriptRule>>,
 }
 
 impl ReplayFactory {
     /// A factory under the policy that the builder has made.
-    pub fn new(alloc: Global, cors: Cors<NoRule>) -> Result<ReplayFactory, AllocError>
+    pub fn new(alloc: Global, cors: Cors<ScriptRule>) -> Result<ReplayFactory, AllocError>
         ensures { IfOk result (λ factory. arc_value factory.cors ≡ cors) }
     {
         Ok(ReplayFactory {

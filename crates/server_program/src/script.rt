@@ -1,13 +1,15 @@
 //! A script, and what it asks for.
-ghost use Rattle.std.specs.Prelude.{◌≡◌, ◌==◌, ◌<◌, ◌+◌, ℕ, List, [], length, IfOk, Option};
+ghost use Rattle.std.specs.Prelude.{◌≡◌, ◌&&◌, ◌||◌, ◌==◌, ◌<◌, ◌+◌, ℕ, List, [], length, IfOk, Option};
 ghost use Rattle.std.specs.List.{slice_split};
 ghost use Rattle.std.specs.Option.{option_map};
-ghost use Rattle.server_program.specs.Script.{with_listener, with_origin, with_connection, with_bytes, with_line, after_line, nothing_yet, plan_of};
+ghost use Rattle.server_program.specs.Script.{with_listener, with_policy, with_connection, with_bytes, with_line, after_line, nothing_yet, plan_of};
 ghost use Rattle.server_program.specs.Plan.{plan, reading_of};
+ghost use Rattle.server_program.specs.PolicyText.{is_permissive};
 
 use crate::line::{Line, read_line};
-use crate::plain_text::PlainText;
-use cors_policy::{Cors, NoRule};
+use crate::policy_line::PolicyLine;
+use crate::script_rule::ScriptRule;
+use cors_policy::Cors;
 use service_core::{Octets, Peer};
 use std::alloc::{AllocError, Global};
 
@@ -15,7 +17,9 @@ use std::alloc::{AllocError, Global};
 #[derive(Drop)]
 pub struct Script {
     /// The policy so far, and its first error.
-    pub cors: Cors<NoRule>,
+    pub cors: Cors<ScriptRule>,
+    /// Some line spoke of the policy.
+    pub has_policy: bool,
     /// There is a listener.
     pub listening: bool,
     /// The connection that comes to it.
@@ -70,6 +74,7 @@ impl Script {
     {
         Script {
             cors: Cors::default(alloc),
+            has_policy: false,
             listening: false,
             connection: None,
         }
@@ -84,7 +89,7 @@ impl Script {
             Line::Listener => Ok(self.with_listener()),
             Line::Conn(peer) => Ok(self.with_connection(alloc, peer)),
             Line::Give(bytes) => self.with_bytes(&bytes),
-            Line::Origin(origin) => self.with_origin(&origin),
+            Line::Policy(line) => self.with_policy(alloc, line),
         }
     }
 
@@ -96,20 +101,29 @@ impl Script {
         }
         Some(Script {
             cors: self.cors,
+            has_policy: self.has_policy,
             listening: true,
             connection: self.connection,
         })
     }
 
-    fn with_origin(self, origin: &PlainText) -> Result<Option<Script>, AllocError>
-        ensures { IfOk result (λ next. option_map plan next ≡ with_origin (plan self) origin.now) }
+    // Whether the policy line can't stand here.
+    fn refuses(&self, line: &PolicyLine) -> bool
+        ensures { result ≡ (self.now.listening || (is_permissive line.now && self.now.has_policy)) }
     {
-        if self.listening {
+        self.listening || (line.is_permissive() && self.has_policy)
+    }
+
+    fn with_policy(self, alloc: Global, line: PolicyLine) -> Result<Option<Script>, AllocError>
+        ensures { IfOk result (λ next. option_map plan next ≡ with_policy (plan self) line) }
+    {
+        if self.refuses(&line) {
             return Ok(None);
         }
         Ok(Some(Script {
-            cors: self.cors.allowed_origin(origin.as_str())?,
-            listening: false,
+            cors: line.added_to(alloc, self.cors)?,
+            has_policy: true,
+            listening: self.listening,
             connection: self.connection,
         }))
     }
@@ -122,6 +136,7 @@ impl Script {
         }
         Some(Script {
             cors: self.cors,
+            has_policy: self.has_policy,
             listening: true,
             connection: Some(Connection {
                 peer,
@@ -135,6 +150,7 @@ impl Script {
     {
         let Script {
             cors,
+            has_policy,
             listening,
             connection,
         } = self;
@@ -144,6 +160,7 @@ impl Script {
         connection.held.push_all(bytes.as_bytes())?;
         Ok(Some(Script {
             cors,
+            has_policy,
             listening,
             connection: Some(connection),
         }))

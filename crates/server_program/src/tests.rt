@@ -155,6 +155,36 @@ fn the_first_bad_line_is_told_by_its_number(rt: HostRuntime) -> Result<(), Fail>
         (b"\norigins /x", 2),
         (b"listener\norigin /x", 2),
         (b"origin \xc3\xa4", 1),
+        (
+            b"permissive\nany-origin\nany-method\nany-header\nexpose-any\nwildcard\nblock",
+            0,
+        ),
+        (
+            b"credentials\nno-vary\nno-preflight\nrule always\nrule dnt\nrule rust-lang",
+            0,
+        ),
+        (
+            b"methods GET\nheader a b\nheaders a b\nexpose a\nmax-age none\nmax-age 0",
+            0,
+        ),
+        (b"max-age 18446744073709551615", 0),
+        (b"max-age 18446744073709551616", 1),
+        (b"max-age 01", 1),
+        (b"max-age", 1),
+        (b"max-age -1", 1),
+        (b"permissive\npermissive", 2),
+        (b"block\npermissive", 2),
+        (b"listener\nblock", 2),
+        (b"methods", 1),
+        (b"methods ", 1),
+        (b"methods GET  PUT", 1),
+        (b"headers a ", 1),
+        (b"expose  a", 1),
+        (b"rule", 1),
+        (b"rule other", 1),
+        (b"Block", 1),
+        (b"block ", 1),
+        (b"any-Origin", 1),
     ] {
         assert_eq!(rt; bad_line(alloc, text)?, number);
     }
