@@ -8,12 +8,12 @@ ghost use Rattle.cors_policy.specs.Faults.{fault_response};
 ghost use Rattle.cors_policy.specs.Transforms.{Refuses};
 ghost use Rattle.http_service.specs.Requests.{IsFunction};
 ghost use Rattle.server_run.specs.Creating.{OnlyEnds};
-ghost use Rattle.server_program.specs.Hello.{hello_under};
+ghost use Rattle.server_program.specs.Handlers.{site};
 ghost use Rattle.server_program.specs.Policed.{IsPoliced};
 ghost use Rattle.server_program.specs.Serving.{default_limits, LeavesScript, ServesScript};
 
-use crate::Hello;
 use crate::script_rule::ScriptRule;
+use crate::{Handler, HandlerService};
 use cors_policy::{Cors, CorsFault, CorsInitError, CorsMiddleware};
 use futures::Future;
 use http_service::{H1ServiceHandler, H1ServiceHandlerResponse};
@@ -22,23 +22,27 @@ use service_core::{Ended, Link, LinkHolder, Ready, Service, ServiceFactory, Tran
 use std::alloc::Global;
 use std::sync::Arc;
 
-/// Makes the service of connections: each request is answered by `hello` under the policy, if that is not refused.
+/// Makes the service of connections: each request is answered by the handler under the policy, if that is not refused.
 #[derive(Drop)]
 pub struct ConnectionFactory {
     pub alloc: Global,
     /// The policy's builder, and the error that it keeps.
     pub cors: Arc<Cors<ScriptRule>>,
+    pub handler: Handler,
 }
 
 impl ConnectionFactory {
     // The service of requests.
-    fn policed(&self) -> Result<CorsMiddleware<Hello, ScriptRule>, CorsInitError>
-        ensures ok { IfOk result (IsPoliced ⟦<CorsMiddleware<Hello, ScriptRule> as Service<Request>>⟧ (arc_value self.now.cors).policy) }
+    fn policed(&self) -> Result<CorsMiddleware<HandlerService, ScriptRule>, CorsInitError>
+        ensures ok { IfOk result (IsPoliced ⟦<CorsMiddleware<HandlerService, ScriptRule> as Service<Request>>⟧ (site (arc_value self.now.cors).policy self.now.handler)) }
         ensures made { IfOk result (λ _. config_error (arc_value self.now.cors) ≡ None) }
         ensures err { IfErr result (Refuses (arc_value self.now.cors)) }
     {
-        let hello = Hello { alloc: self.alloc };
-        self.cors.new_transform(hello).into_inner()
+        let service = HandlerService {
+            alloc: self.alloc,
+            handler: self.handler,
+        };
+        self.cors.new_transform(service).into_inner()
     }
 }
 
@@ -49,19 +53,21 @@ impl<L: Link> ServiceFactory<L> for ConnectionFactory {
 
     type Config = ();
 
-    type Service = H1ServiceHandler<CorsMiddleware<Hello, ScriptRule>>;
+    type Service = H1ServiceHandler<CorsMiddleware<HandlerService, ScriptRule>>;
 
     type InitError = CorsInitError;
 
-    type Future = Ready<Result<H1ServiceHandler<CorsMiddleware<Hello, ScriptRule>>, CorsInitError>>;
+    type Future = Ready<
+        Result<H1ServiceHandler<CorsMiddleware<HandlerService, ScriptRule>>, CorsInitError>,
+    >;
 
-    ghost may = { λ f _ link r. OnlyEnds (ServesScript (arc_value f.cors).policy L.Link link) r };
+    ghost may = { λ f _ link r. OnlyEnds (ServesScript (site (arc_value f.cors).policy f.handler) L.Link link) r };
 
     ghost may_ready = { λ _ _ answer. answer ≡ PollReady (Ok tt) };
 
     ghost may_begin = { λ f _ link future.
-        GivesOnly ⟦<H1ServiceHandlerResponse<L, CorsMiddleware<Hello, ScriptRule>> as Future>⟧ future (OnlyEnds (ServesScript (arc_value f.cors).policy L.Link link))
-        × Within (⟦<H1ServiceHandlerResponse<L, CorsMiddleware<Hello, ScriptRule>> as LinkHolder<L>>⟧.may_stand future) (LeavesScript (arc_value f.cors).policy L.Link link) };
+        GivesOnly ⟦<H1ServiceHandlerResponse<L, CorsMiddleware<HandlerService, ScriptRule>> as Future>⟧ future (OnlyEnds (ServesScript (site (arc_value f.cors).policy f.handler) L.Link link))
+        × Within (⟦<H1ServiceHandlerResponse<L, CorsMiddleware<HandlerService, ScriptRule>> as LinkHolder<L>>⟧.may_stand future) (LeavesScript (site (arc_value f.cors).policy f.handler) L.Link link) };
 
     ghost may_init = { λ f _ error. Refuses (arc_value f.cors) error };
 
@@ -72,7 +78,9 @@ impl<L: Link> ServiceFactory<L> for ConnectionFactory {
     fn new_service(
         &self,
         _cfg: (),
-    ) -> Ready<Result<H1ServiceHandler<CorsMiddleware<Hello, ScriptRule>>, CorsInitError>> {
+    ) -> Ready<
+        Result<H1ServiceHandler<CorsMiddleware<HandlerService, ScriptRule>>, CorsInitError>,
+    > {
         match self.policed() {
             Err(error) => err(error),
             Ok(policed) => {

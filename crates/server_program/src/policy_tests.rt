@@ -261,3 +261,32 @@ fn each_refused_policy_is_told_by_its_text(rt: HostRuntime) -> Result<(), Fail> 
     }
     Ok(())
 }
+
+#[test]
+fn the_handler_peer_answers_with_the_peer(rt: HostRuntime) -> Result<(), Fail> {
+    let answer = "R|V|content-length: 13\\r\\n\\r\\n10.0.0.1:5000";
+    expect_policy(&rt, "handler fail\nhandler peer\n", GET, answer)?;
+    let script = format!(in rt.alloc();
+        "handler peer\nblock\nlistener\nconn local\ngive {GET}\\r\\n\n"
+    )?;
+    let answer = shown(rt.alloc(), "R|V|content-length: 5\\r\\n\\r\\nlocal")?;
+    let text = format!(in rt.alloc(); "0.0 served \"{answer}\"\n{DRAINED}")?;
+    expect(&rt, script.as_str(), 0, text.as_str())
+}
+
+#[test]
+fn a_handler_that_fails_is_answered_under_the_policy(rt: HostRuntime) -> Result<(), Fail> {
+    expect_policy(
+        &rt,
+        "handler fail\n",
+        GET,
+        "HTTP/1.1 500 Internal Server Error\\r\\n|V|content-length: 6\\r\\n\\r\\nfailed",
+    )?;
+    let request = format!(in rt.alloc(); "{GET}Origin: https://a.example\\r\\n")?;
+    expect_policy(
+        &rt,
+        "permissive\nhandler fail\n",
+        request.as_str(),
+        "HTTP/1.1 500 Internal Server Error\\r\\n|access-control-allow-origin: https://a.example\\r\\naccess-control-expose-headers: access-control-allow-origin\\r\\naccess-control-allow-credentials: true\\r\\n|V|content-length: 6\\r\\n\\r\\nfailed",
+    )
+}

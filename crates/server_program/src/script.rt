@@ -2,10 +2,11 @@
 ghost use Rattle.std.specs.Prelude.{◌≡◌, ◌&&◌, ◌||◌, ◌==◌, ◌<◌, ◌+◌, ℕ, List, [], length, IfOk, Option};
 ghost use Rattle.std.specs.List.{slice_split};
 ghost use Rattle.std.specs.Option.{option_map};
-ghost use Rattle.server_program.specs.Script.{with_listener, with_policy, with_connection, with_bytes, with_line, after_line, nothing_yet, plan_of};
+ghost use Rattle.server_program.specs.Script.{with_listener, with_handler, with_policy, with_connection, with_bytes, with_line, after_line, nothing_yet, plan_of};
 ghost use Rattle.server_program.specs.Plan.{plan, reading_of};
 ghost use Rattle.server_program.specs.PolicyText.{is_permissive};
 
+use crate::Handler;
 use crate::line::{Line, read_line};
 use crate::policy_line::PolicyLine;
 use crate::script_rule::ScriptRule;
@@ -20,6 +21,8 @@ pub struct Script {
     pub cors: Cors<ScriptRule>,
     /// Some line spoke of the policy.
     pub has_policy: bool,
+    /// What answers the requests.
+    pub handler: Handler,
     /// There is a listener.
     pub listening: bool,
     /// The connection that comes to it.
@@ -75,6 +78,7 @@ impl Script {
         Script {
             cors: Cors::default(alloc),
             has_policy: false,
+            handler: Handler::Hello,
             listening: false,
             connection: None,
         }
@@ -89,6 +93,7 @@ impl Script {
             Line::Listener => Ok(self.with_listener()),
             Line::Conn(peer) => Ok(self.with_connection(alloc, peer)),
             Line::Give(bytes) => self.with_bytes(&bytes),
+            Line::Handle(handler) => Ok(self.with_handler(handler)),
             Line::Policy(line) => self.with_policy(alloc, line),
         }
     }
@@ -102,7 +107,23 @@ impl Script {
         Some(Script {
             cors: self.cors,
             has_policy: self.has_policy,
+            handler: self.handler,
             listening: true,
+            connection: self.connection,
+        })
+    }
+
+    fn with_handler(self, handler: Handler) -> Option<Script>
+        ensures { option_map plan result ≡ with_handler (plan self) handler }
+    {
+        if self.listening {
+            return None;
+        }
+        Some(Script {
+            cors: self.cors,
+            has_policy: self.has_policy,
+            handler,
+            listening: self.listening,
             connection: self.connection,
         })
     }
@@ -123,6 +144,7 @@ impl Script {
         Ok(Some(Script {
             cors: line.added_to(alloc, self.cors)?,
             has_policy: true,
+            handler: self.handler,
             listening: self.listening,
             connection: self.connection,
         }))
@@ -137,6 +159,7 @@ impl Script {
         Some(Script {
             cors: self.cors,
             has_policy: self.has_policy,
+            handler: self.handler,
             listening: true,
             connection: Some(Connection {
                 peer,
@@ -151,6 +174,7 @@ impl Script {
         let Script {
             cors,
             has_policy,
+            handler,
             listening,
             connection,
         } = self;
@@ -161,6 +185,7 @@ impl Script {
         Ok(Some(Script {
             cors,
             has_policy,
+            handler,
             listening,
             connection: Some(connection),
         }))

@@ -1,6 +1,7 @@
 use crate::memory_sink::MemorySink;
 use crate::memory_source::MemorySource;
 use crate::peer_text::read_peer;
+use crate::peer_words::peer_text;
 use crate::plain_text::PlainText;
 use crate::reading::{ReadError, read_whole};
 use crate::script::{Reading, Script, read_script};
@@ -185,6 +186,18 @@ fn the_first_bad_line_is_told_by_its_number(rt: HostRuntime) -> Result<(), Fail>
         (b"Block", 1),
         (b"block ", 1),
         (b"any-Origin", 1),
+        (
+            b"handler hello\nhandler peer\nblock\nhandler fail\npermissive",
+            5,
+        ),
+        (
+            b"handler hello\nhandler peer\npermissive\nhandler fail\nblock",
+            0,
+        ),
+        (b"handler", 1),
+        (b"handler none", 1),
+        (b"handler hello ", 1),
+        (b"listener\nhandler hello", 2),
     ] {
         assert_eq!(rt; bad_line(alloc, text)?, number);
     }
@@ -312,5 +325,29 @@ fn odd_origins_are_kept_or_refused_by_cause(rt: HostRuntime) -> Result<(), Fail>
 fn a_plain_text_is_its_bytes(rt: HostRuntime) -> Result<(), Fail> {
     let text = PlainText::of(rt.alloc(), b" a~")?;
     assert_eq!(rt; text.as_str(), " a~");
+    Ok(())
+}
+
+#[test]
+fn a_peer_is_told_in_words(rt: HostRuntime) -> Result<(), Fail> {
+    let alloc = rt.alloc();
+    let v6 = Peer::V6 {
+        host: 0x2001_0db8_0000_0000_0000_0000_00af_fffe,
+        port: 80,
+    };
+    for (peer, text) in [
+        (
+            Peer::V4 {
+                host: 0x0a00_00ff,
+                port: 5000,
+            },
+            b"10.0.0.255:5000".as_slice(),
+        ),
+        (v6, b"[2001:0db8:0000:0000:0000:0000:00af:fffe]:80"),
+        (Peer::Local, b"local"),
+        (Peer::Unknown, b"unknown"),
+    ] {
+        assert_eq!(rt; peer_text(alloc, peer)?.as_bytes(), text);
+    }
     Ok(())
 }
