@@ -5,3 +5,4 @@ pub mod Steps
 pub mod Singles
 pub mod Faults
 pub mod ResponseLends
+pub mod NamesLeft

@@ -1,8 +1,8 @@
-ghost use Rattle.std.specs.Prelude.{◌≡◌, ◌≤◌, ◌++◌, ◌∷◌, [], length, take, drop, vec_len, position, IfOk, OnOk, OnErr, option_copied};
-ghost use Rattle.http1_grammar.specs.Headers.{get, get_all, is_named, insert, remove};
+ghost use Rattle.std.specs.Prelude.{◌≡◌, ◌≤◌, ◌==◌, ◌++◌, ◌∷◌, [], length, take, drop, vec_len, position, IfOk, OnOk, OnErr, option_copied};
+ghost use Rattle.http1_grammar.specs.Headers.{get, get_all, is_named, insert, names, remove};
 ghost use Rattle.http1_plain.specs.Singles.{IsSingle};
 
-use crate::{FieldValue, Single};
+use crate::{Entries, FieldValue, GetAll, Names, Single};
 use http_header::HeaderName;
 use std::alloc::{AllocError, Global};
 use std::marker::Model;
@@ -29,19 +29,30 @@ fn place_of(entries: &[(HeaderName, FieldValue)], name: &HeaderName) -> Option<u
     entries.iter().position(|entry| entry.0 == *name)
 }
 
+// The headers of other names go to the front in order. The answer is how many those are.
+fn others_first(headers: &mut [(HeaderName, FieldValue)], name: &HeaderName) -> usize
+    ensures others { take result headers.new ≡ remove headers.old name.now }
+    ensures within { result ≤ length headers.old }
+    ensures len { length headers.new ≡ length headers.old }
+{
+    let mut kept = 0;
+    for at in 0..headers.len() {
+        if headers[at].0 != *name {
+            headers.swap(kept, at);
+            kept += 1;
+        }
+    }
+    kept
+}
+
 // From this place on, all headers of the name go.
 fn remove_from(entries: &mut Vec<(HeaderName, FieldValue)>, place: usize, name: &HeaderName)
     requires { place ≤ vec_len entries.old }
     ensures { entries.new.items
         ≡ take place entries.old.items ++ remove (drop place entries.old.items) name.now }
 {
-    let mut at = entries.len();
-    while at > place {
-        at -= 1;
-        if entries[at].0 == *name {
-            let _ = entries.remove(at);
-        }
-    }
+    let kept = others_first(&mut entries[place..], name);
+    entries.truncate(place + kept);
 }
 
 impl HeaderList {
@@ -59,6 +70,13 @@ impl HeaderList {
         ensures { result ≡ length self.now }
     {
         self.entries.len()
+    }
+
+    /// Whether there is no header.
+    pub fn is_empty(&self) -> bool
+        ensures { result ≡ (length self.now == 0) }
+    {
+        self.entries.is_empty()
     }
 
     /// The headers in order.
@@ -100,11 +118,35 @@ impl HeaderList {
         }
     }
 
-    /// All headers of the name go.
-    pub fn remove(&mut self, name: &HeaderName)
-        ensures { self.new ≡ remove self.old name.now }
+    /// The pairs in order, one after another.
+    pub fn iter(&self) -> Entries<'_>
+        ensures { result ≡ self.now }
     {
+        Entries::new(&self.entries)
+    }
+
+    /// The values of the name in order, one after another.
+    pub fn get_all<'a>(&'a self, name: &'a HeaderName) -> GetAll<'a>
+        ensures { result ≡ get_all self.now name.now }
+    {
+        GetAll::new(&self.entries, name)
+    }
+
+    /// Each name once, in the order of their first headers.
+    pub fn names(&self) -> Names<'_>
+        ensures { result ≡ names self.now }
+    {
+        Names::new(&self.entries)
+    }
+
+    /// All headers of the name go. The answer is how many those were.
+    pub fn remove(&mut self, name: &HeaderName) -> usize
+        ensures left { self.new ≡ remove self.old name.now }
+        ensures gone { result ≡ length (get_all self.old name.now) }
+    {
+        let before = self.entries.len();
         remove_from(&mut self.entries, 0, name);
+        before - self.entries.len()
     }
 
     /// The pair takes the place of the first of its name, and the others go. A new name goes last. Or nothing changes.

@@ -1,5 +1,5 @@
 //! Worked rows.
-ghost use Rattle.std.specs.Prelude.{◌<◌, ◌≤◌};
+ghost use Rattle.std.specs.Prelude.{◌≡◌, ◌<◌, ◌≤◌, length};
 
 use crate::{
     FieldFault, FieldValue, Framing, HeaderList, HttpVersion, Limits, NextHead, Response, Single,
@@ -246,7 +246,7 @@ fn a_list_is_edited(rt: HostRuntime) -> Result<(), Fail> {
         b"vary=Origin;age=1;".as_slice()
     );
     list.insert(HOST, FieldValue::new(alloc, b"h")?)?;
-    list.remove(&AGE);
+    assert_eq!(rt; list.remove(&AGE), 1);
     assert_eq!(rt;
         lines_of(alloc, &list)?.as_bytes(),
         b"vary=Origin;host=h;".as_slice()
@@ -255,6 +255,115 @@ fn a_list_is_edited(rt: HostRuntime) -> Result<(), Fail> {
         lines_of(alloc, &whole)?.as_bytes(),
         b"vary=a;age=1;vary=b;vary=c;".as_slice()
     );
+    Ok(())
+}
+
+// The list a: 1, b: 2, a: 3.
+fn three_headers(alloc: Global) -> Result<HeaderList, Fail> {
+    let mut list = HeaderList::new(alloc);
+    for (name, value) in [("a", "1"), ("b", "2"), ("a", "3")] {
+        list.append(
+            HeaderName::from_bytes(alloc, name.as_bytes())?,
+            FieldValue::new(alloc, value.as_bytes())?,
+        )?;
+    }
+    Ok(list)
+}
+
+// The same as `lines_of`, by the list's iterator.
+fn lines_by_iter(alloc: Global, headers: &HeaderList) -> Result<Octets, AllocError> {
+    let mut lines = Octets::new(alloc);
+    for (name, value) in headers.iter() {
+        lines.push_all(name.as_bytes())?;
+        lines.push_all(b"=")?;
+        lines.push_all(value.as_bytes())?;
+        lines.push_all(b";")?;
+    }
+    Ok(lines)
+}
+
+fn count_of_headers(headers: &HeaderList) -> usize
+    ensures { result ≡ length headers.now }
+{
+    headers.iter().count()
+}
+
+// The values of the name, one behind the other.
+fn joined(
+    alloc: Global,
+    headers: &HeaderList,
+    name: &HeaderName,
+) -> Result<FieldValue, AllocError> {
+    let mut text = FieldValue::empty(alloc);
+    for value in headers.get_all(name) {
+        text.push_value(value)?;
+    }
+    Ok(text)
+}
+
+#[test]
+fn a_list_is_read(rt: HostRuntime) -> Result<(), Fail> {
+    let alloc = rt.alloc();
+    let list = three_headers(alloc)?;
+    let a = HeaderName::from_bytes(alloc, b"A")?;
+    let b = HeaderName::from_bytes(alloc, b"b")?;
+    let first = list.get(&a).map(|value| value.as_bytes());
+    assert_eq!(rt; first, Some(b"1".as_slice()));
+    let mut values = list.get_all(&a);
+    assert_eq!(rt;
+        values.next().map(|value| value.as_bytes()),
+        Some(b"1".as_slice())
+    );
+    assert_eq!(rt;
+        values.next().map(|value| value.as_bytes()),
+        Some(b"3".as_slice())
+    );
+    assert!(rt; values.next().is_none() && list.get_all(&HOST).next().is_none());
+    assert_eq!(rt; joined(alloc, &list, &a)?.as_bytes(), b"13".as_slice());
+    let mut names = list.names();
+    assert!(rt; names.next() == Some(&a));
+    assert!(rt; names.next() == Some(&b));
+    assert!(rt; names.next().is_none());
+    assert_eq!(rt; count_of_headers(&list), 3);
+    assert_eq!(rt;
+        lines_by_iter(alloc, &list)?.as_bytes(),
+        b"a=1;b=2;a=3;".as_slice()
+    );
+    assert!(rt; !list.is_empty() && HeaderList::new(alloc).is_empty());
+    Ok(())
+}
+
+#[test]
+fn headers_of_a_name_go(rt: HostRuntime) -> Result<(), Fail> {
+    let alloc = rt.alloc();
+    let mut list = three_headers(alloc)?;
+    let a = HeaderName::from_bytes(alloc, b"a")?;
+    let mut same = list.copy(alloc)?;
+    assert_eq!(rt;
+        lines_of(alloc, &same)?.as_bytes(),
+        b"a=1;b=2;a=3;".as_slice()
+    );
+    assert_eq!(rt; (same.remove(&HOST), same.remove(&a)), (0, 2));
+    assert_eq!(rt; lines_of(alloc, &same)?.as_bytes(), b"b=2;".as_slice());
+    list.insert(a.clone()?, FieldValue::new(alloc, b"4")?)?;
+    assert_eq!(rt; lines_of(alloc, &list)?.as_bytes(), b"a=4;b=2;".as_slice());
+    assert_eq!(rt; list.remove(&a), 1);
+    assert_eq!(rt; lines_of(alloc, &list)?.as_bytes(), b"b=2;".as_slice());
+    Ok(())
+}
+
+#[test]
+fn values_as_text(rt: HostRuntime) -> Result<(), Fail> {
+    let alloc = rt.alloc();
+    assert_eq!(rt;
+        FieldValue::new(alloc, b"a\0b").err(),
+        Some(FieldFault::BadByte { place: 1 })
+    );
+    let value = FieldValue::new(alloc, b"\tvisible ~")?;
+    assert_eq!(rt; value.as_text(), Some("\tvisible ~"));
+    assert_eq!(rt; FieldValue::new(alloc, b"\x80")?.as_text(), None);
+    assert_eq!(rt; FieldValue::new(alloc, b"a\x7f")?.as_text(), None);
+    assert_eq!(rt; FieldValue::empty(alloc).as_text(), Some(""));
     Ok(())
 }
 
