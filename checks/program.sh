@@ -25,6 +25,7 @@ check "a browser's GET" 0 "$whole" "$top/examples/one-get.script" replay
 check "a GET in pieces" 0 "$whole" "$top/examples/browser.script" replay
 check "two GETs" 0 "$(cat "$top/examples/two-gets.report")" "$top/examples/two-gets.script" replay
 check "an allowed origin" 0 "$(cat "$top/examples/allowed-origin.report")" "$top/examples/allowed-origin.script" replay
+check "a preflight" 0 "$(cat "$top/examples/preflight.report")" "$top/examples/preflight.script" replay
 check "a refused policy" 4 'startup refused: `allowed_origin` argument must not be wildcard (`*`)' "$top/examples/refused-policy.script" replay
 check "the version" 0 "dongurapi 0.1.0" /dev/null --version
 check "words that are no form" 2 "usage: replay | listen ADDR N | generate N K" /dev/null replay now

@@ -15,10 +15,13 @@ usage: dongurapi replay < SCRIPT
        dongurapi --help | --version
 
 replay   reads a script of connections from standard input, serves each over a link in memory, and
-         prints what was written on it. Lines of a script: `origin T`, one more origin that the policy
-         allows, before the listener; `listener`; `conn PEER` with PEER as `10.0.0.1:5000` or `local`;
-         and `give TEXT` with the escapes \\r \\n \\t \\\" \\\\ \\xHH. Empty lines and lines that begin
-         with `#` are skipped.
+         prints what was written on it. Lines of a script: `listener`; `conn PEER` with PEER as
+         `10.0.0.1:5000` or `local`; and `give TEXT` with the escapes \\r \\n \\t \\\" \\\\ \\xHH. Before the
+         listener: `handler hello|peer|fail`, and lines of the policy: `permissive`, `any-origin`,
+         `origin T`, `rule always|dnt|rust-lang`, `any-method`, `methods A ..`, `any-header`,
+         `header T`, `headers A ..`, `expose-any`, `expose A ..`, `max-age N|none`, `wildcard`,
+         `credentials`, `no-vary`, `no-preflight`, `block`. Empty lines and lines that begin with `#`
+         are skipped.
 
 status   0 served; 2 the words are none of these; 3 a line of the script is not understood, or the
          script is too long; 4 the script names no listener, or its policy is refused; 5 a read failed;
