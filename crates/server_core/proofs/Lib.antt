@@ -1,0 +1,9 @@
+pub mod Kept
+pub mod Marks
+pub mod Orders
+pub mod Picks
+pub mod RunSteps
+pub mod Starts
+pub mod Turns
+pub mod WorkerCoreSteps
+pub mod WorkerCoreRuns

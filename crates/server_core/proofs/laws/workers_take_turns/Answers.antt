@@ -1,0 +1,5 @@
+use Rattle.server_core.proofs.Turns.{takes_turn}
+use Rattle.server_core.proofs.laws.workers_take_turns.Goals as goal
+
+pub returns : goal.returns
+returns c = takes_turn

@@ -1,0 +1,7 @@
+pub mod Core
+pub mod Inside
+pub mod Numbers
+pub mod Runs
+pub mod Statuses
+pub mod WorkerCore
+pub mod WorkerRuns

@@ -1,0 +1,51 @@
+//! What an accept core keeps over every list of events.
+ghost use Rattle.std.specs.Prelude.{◌≡◌, ◌≤◌, ◌++◌, [], ◌∷◌, ℕ, Bool, false, List};
+ghost use Rattle.std.specs.List.{list_any};
+ghost use Rattle.server_core.specs.Core.{Core, IsKept, fresh};
+ghost use Rattle.server_core.specs.Runs.{AllAllowed, TakesTurn, after_all, after_any, is_resume};
+ghost use Rattle.server_core.specs.declared.command.Command.TheVariants.{Pause, Stop};
+ghost use Rattle.server_core.specs.declared.event.Event.{Event};
+ghost use Rattle.server_core.specs.declared.event.Event.TheVariants.{Command, Got, Sent};
+
+use crate::accept_core::AcceptCore;
+use crate::event::Event;
+
+/// A new core, and then each event that is allowed where it stands; the others are passed over.
+pub fn any_events(workers: usize, listeners: usize, events: &[Event]) -> AcceptCore
+    requires some_workers { 1 ≤ workers }
+    requires most_workers { workers ≤ 512 }
+    requires some_listeners { 1 ≤ listeners }
+    requires most_listeners { listeners ≤ 64 }
+    ensures { result ≡ after_any (fresh workers listeners) events.now }
+{
+    let mut core = AcceptCore::new(workers, listeners);
+    for event in events {
+        if core.allows(event) {
+            core.step(*event);
+        }
+    }
+    core
+}
+
+/// Over every list of allowed events each connection that was given is done, out at one worker, or the one that waits;
+/// the free workers are in order, no worker stands there twice, and nothing waits after a stop.
+pub fn balance_is_kept()
+    ensures { (workers listeners : ℕ) (events : List Event) → workers ≤ 512 → AllAllowed (fresh workers listeners) events
+        → IsKept (after_all (fresh workers listeners) events) }
+{}
+
+/// In no list of allowed events is a connection taken after a stop, or after a pause before the next resume.
+pub fn none_is_taken_meanwhile()
+    ensures stopped { (core : Core) (before between after : List Event) (graceful : Bool) (token : ℕ)
+        → ¬ AllAllowed core (before ++ Command (Stop graceful) ∷ (between ++ Got token ∷ after)) }
+    ensures paused { (core : Core) (before between after : List Event) (token : ℕ) → list_any is_resume between ≡ false
+        → ¬ AllAllowed core (before ++ Command Pause ∷ (between ++ Got token ∷ after)) }
+{}
+
+/// Over every list of allowed events a connection goes to the first worker, from `next` on and round, that is marked free,
+/// and the next turn begins behind it.
+pub fn workers_take_turns()
+    ensures { (core : Core) (before after : List Event) (worker : ℕ) (remains : Bool)
+        → AllAllowed core (before ++ Sent worker remains ∷ after)
+        → TakesTurn (after_all core before) worker (after_all core (before ++ Sent worker remains ∷ [])).next }
+{}
