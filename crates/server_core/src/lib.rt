@@ -5,8 +5,12 @@ mod accept_core;
 mod availability;
 mod command;
 mod event;
+#[cfg(test)]
+mod every_list_tests;
 pub mod laws;
 mod order;
+#[cfg(test)]
+mod plain_server;
 mod ready_answer;
 mod service_status;
 mod stop_answer;
