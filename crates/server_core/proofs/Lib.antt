@@ -1,4 +1,5 @@
 pub mod Kept
+pub mod Ledgers
 pub mod Marks
 pub mod Orders
 pub mod Picks

@@ -1,5 +1,6 @@
 pub mod Core
 pub mod Inside
+pub mod Ledger
 pub mod Numbers
 pub mod Runs
 pub mod Statuses

@@ -2,6 +2,7 @@
 ghost use Rattle.std.specs.Prelude.{◌≡◌, ◌≤◌, ◌++◌, [], ◌∷◌, ℕ, Bool, false, List};
 ghost use Rattle.std.specs.List.{list_any};
 ghost use Rattle.server_core.specs.Core.{Core, IsKept, fresh};
+ghost use Rattle.server_core.specs.Ledger.{Ledger, LeadsTo, IsLedgerOf, Moves, AllGoOn, AtMostOneMoves};
 ghost use Rattle.server_core.specs.Runs.{AllAllowed, TakesTurn, after_all, after_any, is_resume};
 ghost use Rattle.server_core.specs.declared.command.Command.TheVariants.{Pause, Stop};
 ghost use Rattle.server_core.specs.declared.event.Event.{Event};
@@ -48,4 +49,21 @@ pub fn workers_take_turns()
     ensures { (core : Core) (before after : List Event) (worker : ℕ) (remains : Bool)
         → AllAllowed core (before ++ Sent worker remains ∷ after)
         → TakesTurn (after_all core before) worker (after_all core (before ++ Sent worker remains ∷ [])).next }
+{}
+
+/// Each connection that was given is in one place by itself: it waits, is at one worker, or is done. Over every list of
+/// allowed events, whichever of those at a worker come back, as many are in each place as the counts tell, and every
+/// allowed event has such a move. None that is done moves again, one at a worker stays there until it is done, and no event
+/// moves two.
+pub fn each_connection_is_in_one_place()
+    ensures counted { (workers listeners : ℕ) (events : List Event) (ledger : Ledger)
+        → AllAllowed (fresh workers listeners) events → LeadsTo (fresh workers listeners) [] events ledger
+        → IsLedgerOf (after_all (fresh workers listeners) events) ledger }
+    ensures leads_on { (workers listeners : ℕ) (before after : List Event) (ledger : Ledger)
+        → AllAllowed (fresh workers listeners) (before ++ after) → LeadsTo (fresh workers listeners) [] before ledger
+        → (later : Ledger) × LeadsTo (after_all (fresh workers listeners) before) ledger after later }
+    ensures goes_on { (core : Core) (events : List Event) (before after : Ledger) → LeadsTo core before events after
+        → AllGoOn before after }
+    ensures one_moves { (core : Core) (event : Event) (before after : Ledger) → Moves core event before after
+        → AtMostOneMoves before after }
 {}

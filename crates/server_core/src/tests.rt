@@ -114,3 +114,8 @@ fn laws(rt: HostRuntime) {
     let core = any_events(1, 1, &[Event::Got(0), Event::Got(0), Event::Faulted(0)]);
     assert!(rt; core.waiting() && core.order().is_empty());
 }
+
+#[test]
+fn the_law_of_each_connection_can_be_called() {
+    crate::laws::each_connection_is_in_one_place();
+}
