@@ -3,6 +3,10 @@ pub mod Ledgers
 pub mod Marks
 pub mod Orders
 pub mod Picks
+pub mod PlainMoves
+pub mod PlainReads
+pub mod PlainSteps
+pub mod PlainWorkers
 pub mod RunSteps
 pub mod Starts
 pub mod Turns

@@ -2,6 +2,7 @@ pub mod Core
 pub mod Inside
 pub mod Ledger
 pub mod Numbers
+pub mod Plain
 pub mod Runs
 pub mod Statuses
 pub mod WorkerCore

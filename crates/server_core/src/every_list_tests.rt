@@ -1,5 +1,5 @@
 //! Every list of five events, over a core of two workers and two listeners and over a server that knows each
-//! connection by itself.
+//! connection by itself, whose contract is the definition.
 ghost use Rattle.std.specs.Prelude.{◌≡◌, length};
 
 use crate::plain_server::PlainServer;
@@ -69,7 +69,7 @@ fn marks(passed: [bool; 2]) -> Availability {
 fn picks_alike(core: &AcceptCore, plain: &PlainServer) -> bool {
     [[false, false], [false, true], [true, false], [true, true]]
         .iter()
-        .all(|passed| core.pick(&marks(*passed)) == plain.pick(*passed))
+        .all(|passed| core.pick(&marks(*passed)) == plain.pick(&marks(*passed)))
 }
 
 fn orders_alike(core: &AcceptCore, plain: &PlainServer) -> bool {
@@ -94,7 +94,7 @@ fn are_alike(core: &AcceptCore, plain: &PlainServer) -> bool
 fn allow_alike(core: &AcceptCore, plain: &PlainServer) -> bool {
     EVENTS
         .iter()
-        .all(|event| core.allows(event) == plain.allows(*event))
+        .all(|event| core.allows(event) == plain.allows(event))
 }
 
 fn tried(list: &[usize; 5]) -> Shown {
@@ -104,10 +104,14 @@ fn tried(list: &[usize; 5]) -> Shown {
         let Some(event) = EVENTS.get(*number).copied() else {
             return Shown::Differ(place);
         };
-        if !core.allows(&event) && !plain.allows(event) {
-            return Shown::Refused(place);
+        if !core.allows(&event) {
+            return if plain.allows(&event) {
+                Shown::Differ(place)
+            } else {
+                Shown::Refused(place)
+            };
         }
-        if !core.allows(&event) || !plain.allows(event) {
+        if !plain.allows(&event) || !plain.has_room(&event) {
             return Shown::Differ(place);
         }
         core.step(event);
