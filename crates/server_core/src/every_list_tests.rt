@@ -79,7 +79,8 @@ fn orders_alike(core: &AcceptCore, plain: &PlainServer) -> bool {
 }
 
 fn are_alike(core: &AcceptCore, plain: &PlainServer) -> bool
-    requires { length core.now.out ≡ 2 }
+    requires workers { length core.now.out ≡ 2 }
+    requires listeners { length core.now.ended ≡ 2 }
 {
     core.waiting() == plain.waiting()
         && core.paused() == plain.paused()

@@ -3,7 +3,7 @@ ghost use Rattle.std.specs.Prelude.{◌≡◌, ◌+◌, ◌-◌, ◌^◌, ◌<�
 ghost use Rattle.std.specs.List.{list_any};
 ghost use Rattle.std.specs.FinSet as set;
 ghost use Rattle.server_core.specs.Core.{fresh, in_order, behind};
-ghost use Rattle.server_core.specs.Plain.{token_of, waits, is_at, moved_at, stands, is_free, is_retired, both, those};
+ghost use Rattle.server_core.specs.Plain.{waits, is_at, moved_at, stands, is_free, is_retired, both, those};
 ghost use Rattle.server_core.specs.declared.event.Event.TheVariants.{Command as Told, Notice, Back, Got, Sent, RingFull, Faulted, Replaced, Retired, ListenerFailed, ListenerEnded};
 
 use crate::{Availability, Command, Event};
@@ -33,7 +33,7 @@ fn stands(moved: Option<Event>) -> bool
     !matches!(moved, Some(Event::Faulted(_) | Event::Retired(_)))
 }
 
-// Whether it has room for one.
+// Whether a worker is told to have room.
 fn is_free(moved: Option<Event>) -> bool
     ensures { result ≡ is_free moved }
 {
@@ -44,13 +44,14 @@ fn is_free(moved: Option<Event>) -> bool
     }
 }
 
+// Whether it faulted, and no other one takes its place.
 fn is_retired(moved: Option<Event>) -> bool
     ensures { result ≡ is_retired moved }
 {
     matches!(moved, Some(Event::Retired(_)))
 }
 
-// Whether another one may take its place.
+// Whether it faulted, and is neither replaced nor retired yet.
 fn has_faulted(moved: Option<Event>) -> bool
     ensures { result ≡ (not (stands moved) && not (is_retired moved)) }
 {
@@ -81,18 +82,21 @@ fn first_at(connections: &[Option<Event>; 5], w: usize) -> Option<usize>
     connections.iter().position(|moved| is_at(*moved, w))
 }
 
+// Whether one is still to come.
 fn any_to_come(connections: &[Option<Event>; 5]) -> bool
     ensures { result ≡ list_any is_none connections.now }
 {
     connections.iter().any(|moved| moved.is_none())
 }
 
+// Whether one waits.
 fn any_waits(connections: &[Option<Event>; 5]) -> bool
     ensures { result ≡ list_any waits connections.now }
 {
     connections.iter().any(|moved| waits(*moved))
 }
 
+// How many are at the worker w.
 fn count_at(connections: &[Option<Event>; 5], w: usize) -> usize
     ensures { result ≡ count_by (is_at w) connections.now }
 {
@@ -127,6 +131,7 @@ fn mark_free(workers: &mut [Option<Event>; 2], w: usize)
     }
 }
 
+// Whether no worker is left.
 fn are_retired(workers: &[Option<Event>; 2]) -> bool
     ensures { result ≡ (is_retired (slice_index_or workers.now 0 None) && is_retired (slice_index_or workers.now 1 None)) }
 {
@@ -141,11 +146,22 @@ fn one_more(failures: &mut [u64; 2], t: usize)
     failures[t] = failures[t].saturating_add(1);
 }
 
-// The two workers, as they stand.
+// The two workers, in order or not, as they stand.
 fn both(swapped: bool) -> [usize; 2]
     ensures { result ≡ both swapped }
 {
     if swapped { [1, 0] } else { [0, 1] }
+}
+
+// The two workers, as they are asked.
+fn asked(swapped: bool, next: usize) -> [usize; 2]
+    ensures { result ≡ both (cond (next == 0) swapped (not swapped)) }
+{
+    if next == 0 {
+        both(swapped)
+    } else {
+        both(!swapped)
+    }
 }
 
 // The worker at a place of the order.
@@ -174,17 +190,6 @@ fn place_behind(workers: &[Option<Event>; 2], swapped: bool, w: usize) -> usize
         1
     } else {
         0
-    }
-}
-
-// The same from a place on and round.
-fn asked(swapped: bool, next: usize) -> [usize; 2]
-    ensures { result ≡ both (cond (next == 0) swapped (not swapped)) }
-{
-    if next == 0 {
-        both(swapped)
-    } else {
-        both(!swapped)
     }
 }
 

@@ -1,6 +1,6 @@
 use Rattle.std.proofs.Common.{◌≡◌, true, sym, subst}
 use Rattle.server_core.specs.Core.{may_place}
-use Rattle.server_core.proofs.PlainSteps.{turn_small, turn_in_order, sent_is, sent_sound}
+use Rattle.server_core.proofs.PlainSteps.{turn_in_order, sent_is, sent_sound}
 use Rattle.server_core.proofs.plain_server.PlainServer.sent.Goals as goal
 
 pub place_behind-self-inside-requires : goal.place_behind-self-inside-requires
