@@ -11,7 +11,7 @@ use Rattle.std.proofs.lemmas.Bool.Decides.{nat_tests}
 use Rattle.std.proofs.lemmas.Nat.Bits.{bit_at-zero, bit_at-lt, same_from_bits_below}
 use Rattle.server_core.specs.Numbers.{Numbers, with_mark, is_set, any_word, numbers_below}
 
-abbrev view_of : List ℕ → Numbers
+abbrev pub view_of : List ℕ → Numbers
 view_of words = set.from_list (numbers_below 512 words)
 
 or_false : (a : Bool) → (a || false) ≡ a

@@ -1,11 +1,13 @@
 -- Which worker is picked.
 use Rattle.std.proofs.Common.{◌≡◌, ℕ, ◌<◌, Bool, true, false, true≢false, cond, List, [], ◌∷◌, ◌++◌, length, get_or, take, drop, Option, Some, None, refl, sym, ap, ◌∙◌, arith, take-append-drop}
-use Rattle.std.specs.Prelude.{◌&&◌, ◌||◌, ◌↔◌, ◌==◌, not, find, IfSome}
+use Rattle.std.specs.Prelude.{◌&&◌, ◌||◌, ◌↔◌, ◌==◌, not, find, is_some, IfSome}
+use Rattle.std.specs.Ordering.{nat_cmp}
 use Rattle.std.specs.FinSet as set
+use Rattle.std.specs.FinSet.{contains-empty}
 use Rattle.std.proofs.lemmas.Bool.Decides.{nat_tests}
 use Rattle.std.proofs.lemmas.List.Folds.{list_any-append, list_any_at}
 use Rattle.server_core.specs.Numbers.{Numbers}
-use Rattle.server_core.specs.Core.{Core, IsKept, in_order, round, picked}
+use Rattle.server_core.specs.Core.{Core, IsKept, in_order, round, first_free, is_at, is_worker, may_place, picked}
 use Rattle.server_core.proofs.Orders.{or_true, and_left, and_right, not_true, AreBelow}
 
 or_comm : (a b : Bool) → (a || b) ≡ (b || a)
@@ -73,3 +75,21 @@ picked_below s passed h = if_some (λ w. w < length s.out) (picked s passed) (λ
 -- each element of the order is the number of a worker
 pub all_below : (n : ℕ) (order : List ℕ) → AreBelow n order → (k d : ℕ) → k < length order → get_or order k d < n
 all_below n order below k d inside = below (get_or order k d) (list_any_at (λ x. x == get_or order k d) order k d inside (grind (arith, nat_tests)))
+
+and_true : (a : Bool) → (a && true) ≡ a
+and_true true = refl
+and_true false = refl
+
+-- with none passed over, the one that is picked is the first free one
+pub picked_free : (s : Core) → picked s set.empty ≡ first_free s
+picked_free s = ap (λ p. find p (round s.order s.next)) (λ i w. (ap (λ b. set.contains s.free w && not b) (contains-empty nat_cmp w) ∙ and_true (set.contains s.free w)) i)
+
+at_itself : (w : ℕ) → is_at (Some w) w ≡ true
+at_itself w = grind (arith, nat_tests)
+
+-- what waits may be placed at the one that is picked with none passed over
+pub may_place_picked : (s : Core) (w : ℕ) → is_some s.waiting ≡ true → picked s set.empty ≡ Some w → w < length s.out → may_place s w ≡ true
+may_place_picked s w waits e below =
+    let number : is_worker s w ≡ true = grind (arith, nat_tests) in
+    let turn : is_at (first_free s) w ≡ true = ap (λ o. is_at o w) (sym (picked_free s) ∙ e) ∙ at_itself w in
+    rw (number, waits, turn) refl

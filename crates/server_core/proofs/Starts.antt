@@ -36,7 +36,7 @@ within_range a (suc n) v i =
       | false ↦ λ t. let rest = within_range (a + 1) n v (or_true (a == v) (in_order (range_with_len (a + 1) n) v) i t) in omega arith
     ] refl
 
-past_range : (n : ℕ) → in_order (range_with_len 0 n) n ≡ false
+pub past_range : (n : ℕ) → in_order (range_with_len 0 n) n ≡ false
 past_range n =
     elim (in_order (range_with_len 0 n) n) as (λ b. in_order (range_with_len 0 n) n ≡ b → b ≡ false) [
       | true ↦ λ t. let small = within_range 0 n n t in absurd (omega arith)

@@ -1,9 +1,11 @@
 pub mod Core
 pub mod Inside
+pub mod InsideTurns
 pub mod Ledger
 pub mod Numbers
 pub mod Plain
 pub mod Runs
 pub mod Statuses
+pub mod Turns
 pub mod WorkerCore
 pub mod WorkerRuns

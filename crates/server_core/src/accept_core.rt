@@ -1,14 +1,14 @@
 // The bookkeeping of an accept loop.
-ghost use Rattle.std.specs.Prelude.{◌≡◌, ◌+◌, ◌-◌, ◌^◌, ◌<◌, ◌≤◌, ◌↔◌, ◌&&◌, not, find, ℕ, true, false, is_some, length, replicate, All, None, nat_eq, cond, slice_index, slice_set};
+ghost use Rattle.std.specs.Prelude.{◌≡◌, ◌+◌, ◌-◌, ◌^◌, ◌<◌, ◌≤◌, ◌↔◌, ℕ, true, false, is_some, length, replicate, All, None, nat_eq, cond, slice_index, slice_set};
 ghost use Rattle.std.specs.List.{list_all, range_with_len, IsDistinct};
 ghost use Rattle.std.specs.FinSet as set;
-ghost use Rattle.server_core.specs.Core.{fresh, held, round};
+ghost use Rattle.server_core.specs.Core.{fresh, held};
 ghost use Rattle.server_core.specs.declared.event.Event.TheVariants.{Command as Told, Notice, Back, Got, Sent, RingFull, Faulted, Replaced, Retired, ListenerFailed, ListenerEnded};
 
 use crate::availability::Availability;
 use crate::command::Command;
 use crate::event::Event;
-use crate::order::{has_worker, place_behind, place_of, place_or_first};
+use crate::turns::Turns;
 use arrayvec::ArrayVec;
 use std::marker::Model;
 
@@ -21,9 +21,7 @@ pub struct AcceptCore {
     ended: ArrayVec<bool, 64>,
     failures: ArrayVec<u64, 64>,
     waiting: Option<usize>,
-    order: ArrayVec<u16, 512>,
-    next: usize,
-    free: Availability,
+    turns: Turns,
     out: ArrayVec<u64, 512>,
     retired: Availability,
     given: u64,
@@ -44,30 +42,6 @@ impl Model for AcceptCore {
     ghost view = { core_of };
 
     ghost invariant = { IsSound };
-}
-
-// The numbers below `workers`, in order.
-fn numbers(workers: usize) -> ArrayVec<u16, 512>
-    requires { workers ≤ 512 }
-    ensures { result.items ≡ range_with_len 0 workers }
-{
-    let mut order = ArrayVec::new();
-    for w in 0..workers {
-        order.push(w as u16);
-    }
-    order
-}
-
-// The same as a set.
-fn all_below(workers: usize) -> Availability
-    requires { workers ≤ 512 }
-    ensures { result ≡ set.from_list (range_with_len 0 workers) }
-{
-    let mut all = Availability::default();
-    for w in 0..workers {
-        all.set_available(w, true);
-    }
-    all
 }
 
 // So many zeros.
@@ -123,32 +97,12 @@ fn one_more(counts: &mut ArrayVec<u64, 512>, w: usize)
 }
 
 // Takes the mark of w, unless it has room that remains.
-fn unmark_unless(remains: bool, free: &mut Availability, w: usize)
-    requires { w < 512 }
-    ensures { free.new ≡ cond remains free.old (set.remove free.old w) }
+fn unmark_unless(remains: bool, turns: &mut Turns, w: usize)
+    ensures { turns.new ≡ record turns.old { free = cond remains turns.old.free (set.remove turns.old.free w) } }
 {
     if !remains {
-        free.set_available(w, false);
+        turns.unmark(w);
     }
-}
-
-// The first worker, from the place `next` on and round, that is free and not passed over.
-fn first_left(
-    order: &[u16],
-    next: usize,
-    free: &Availability,
-    passed: &Availability,
-) -> Option<usize>
-    requires { next ≤ length order.now }
-    ensures { result ≡ find (λ w. set.contains free.now w && not (set.contains passed.now w)) (round order.now next) }
-{
-    let (front, back) = order.split_at(next);
-    let found = back
-        .iter()
-        .chain(front.iter())
-        .map(|w| usize::from(*w))
-        .find(|w| free.holds(*w) && !passed.holds(*w));
-    found
 }
 
 // The events of workers and of the waiting connection.
@@ -159,9 +113,7 @@ impl AcceptCore {
         requires { allowed self.old (Notice w) ≡ true }
         ensures { self.new ≡ step self.old (Notice w) }
     {
-        if has_worker(self.order.as_slice(), w) {
-            self.free.set_available(w, true);
-        }
+        self.turns.mark(w);
     }
 
     fn back(&mut self, w: usize)
@@ -187,34 +139,30 @@ impl AcceptCore {
     {
         self.waiting = None;
         one_more(&mut self.out, w);
-        self.next = place_behind(self.order.as_slice(), w);
-        unmark_unless(remains, &mut self.free, w);
+        self.turns.go_on_behind(w);
+        unmark_unless(remains, &mut self.turns, w);
     }
 
     fn ring_full(&mut self, w: usize)
         requires { allowed self.old (RingFull w) ≡ true }
         ensures { self.new ≡ step self.old (RingFull w) }
     {
-        self.next = place_behind(self.order.as_slice(), w);
-        self.free.set_available(w, false);
+        self.turns.go_on_behind(w);
+        self.turns.unmark(w);
     }
 
     fn faulted(&mut self, w: usize)
         requires { allowed self.old (Faulted w) ≡ true }
         ensures { self.new ≡ step self.old (Faulted w) }
     {
-        let place = place_of(self.order.as_slice(), w);
-        self.order.swap_remove(place);
-        self.free.set_available(w, false);
-        self.next = place_or_first(self.order.as_slice(), self.next);
+        self.turns.remove(w);
     }
 
     fn replaced(&mut self, w: usize)
         requires { allowed self.old (Replaced w) ≡ true }
         ensures { self.new ≡ step self.old (Replaced w) }
     {
-        self.order.push(w as u16);
-        self.free.set_available(w, true);
+        self.turns.add(w);
     }
 
     fn retire(&mut self, w: usize)
@@ -297,13 +245,7 @@ impl AcceptCore {
     fn first_free(&self) -> Option<usize>
         ensures { result ≡ first_free self.now }
     {
-        let (front, back) = self.order.as_slice().split_at(self.next);
-        let found = back
-            .iter()
-            .chain(front.iter())
-            .map(|w| usize::from(*w))
-            .find(|w| self.free.holds(*w));
-        found
+        self.turns.first(&Availability::default())
     }
 
     // Whether it is w's turn.
@@ -334,7 +276,7 @@ impl AcceptCore {
         if w >= self.out.len() {
             return false;
         }
-        !has_worker(self.order.as_slice(), w) && !self.retired.holds(w) && self.out[w] == 0
+        !self.turns.has(w) && !self.retired.holds(w) && self.out[w] == 0
     }
 }
 
@@ -354,9 +296,7 @@ impl AcceptCore {
             ended: none_ended(listeners),
             failures: zeros(listeners),
             waiting: None,
-            order: numbers(workers),
-            next: 0,
-            free: all_below(workers),
+            turns: Turns::new(workers),
             out: zeros(workers),
             retired: Availability::default(),
             given: 0,
@@ -377,7 +317,7 @@ impl AcceptCore {
             Event::Got(t) => self.is_open(t) && self.may_take(),
             Event::Sent { worker, remains: _ } => self.may_place(worker),
             Event::RingFull(w) => self.may_place(w),
-            Event::Faulted(w) => self.is_worker(w) && has_worker(self.order.as_slice(), w),
+            Event::Faulted(w) => self.is_worker(w) && self.turns.has(w),
             Event::Replaced(w) => self.may_return(w),
             Event::Retired(w) => self.may_return(w),
             Event::ListenerFailed(t) => self.is_open(t),
@@ -421,7 +361,7 @@ impl AcceptCore {
         ensures none { (result ≡ None) ↔ ((w : ℕ) → set.contains self.now.free w ≡ true → set.contains passed.now w ≡ true) }
         ensures number { IfSome result (λ w. w < length self.now.out) }
     {
-        first_left(self.order.as_slice(), self.next, &self.free, passed)
+        self.turns.first(passed)
     }
 
     /// Whether no connection is taken until `Command::Resume`.
@@ -453,13 +393,21 @@ impl AcceptCore {
         self.out[w]
     }
 
+    /// How often the listener `t` failed since its last connection.
+    pub fn failures(&self, t: usize) -> u64
+        requires { t < length self.now.ended }
+        ensures { result ≡ slice_index self.now.failures t }
+    {
+        self.failures[t]
+    }
+
     /// The workers that get connections in turn, each once.
     pub fn order(&self) -> &[u16]
         ensures value { result.now ≡ self.now.order }
         ensures numbers { All (λ w. w < length self.now.out) result.now }
         ensures distinct { IsDistinct nat_eq result.now }
     {
-        self.order.as_slice()
+        self.turns.order()
     }
 
     /// The place in `order` that is asked first, or 0 where the order is empty.
@@ -467,6 +415,6 @@ impl AcceptCore {
         ensures value { result ≡ self.now.next }
         ensures place { 0 < result → result < length self.now.order }
     {
-        self.next
+        self.turns.next()
     }
 }

@@ -1,8 +1,8 @@
 // Which workers are marked.
-ghost use Rattle.std.specs.Prelude.{◌≡◌, ◌≢◌, ◌==◌, ◌↔◌, ◌<◌, ◌/◌, ◌%◌, ◌^◌, ℕ, All, slice_index, cond, false};
+ghost use Rattle.std.specs.Prelude.{◌≡◌, ◌≢◌, ◌==◌, ◌↔◌, ◌≤◌, ◌<◌, ◌/◌, ◌%◌, ◌^◌, ℕ, All, MatchOption, slice_index, cond, false};
 ghost use Rattle.std.specs.Int.{bit_at};
 ghost use Rattle.std.specs.FinSet as set;
-ghost use Rattle.server_core.specs.Numbers.{with_mark, any_word};
+ghost use Rattle.server_core.specs.Numbers.{with_mark, any_word, IsFirstBit, IsFirstFrom, HasNoneFrom};
 
 use std::marker::Model;
 
@@ -46,6 +46,18 @@ fn with_mark(word: u128, place: usize, mark: bool) -> u128
     } else {
         without_bit(word, place)
     }
+}
+
+// The lowest bit that is set, from `place` on.
+fn first_bit(word: u128, place: usize) -> Option<usize>
+    requires { place < 128 }
+    ensures { MatchOption result ((i : ℕ) → place ≤ i → i < 128 → bit_at word i ≡ 0) (IsFirstBit word place) }
+{
+    let rest = word >> place;
+    if rest == 0 {
+        return None;
+    }
+    Some(place + rest.trailing_zeros() as usize)
 }
 
 // Whether a word has a bit that is set.
@@ -138,5 +150,18 @@ impl Availability {
             Some(word) => has_bit(*word, idx % 128),
             None => false,
         }
+    }
+
+    // The lowest worker that is marked, from `from` on.
+    pub(crate) fn first_from(&self, from: usize) -> Option<usize>
+        ensures { MatchOption result (HasNoneFrom self.now from) (IsFirstFrom self.now from) }
+    {
+        for group in from / 128..4 {
+            let start = from.max(128 * group);
+            if let Some(place) = first_bit(self.words[group], start % 128) {
+                return Some(128 * group + place);
+            }
+        }
+        None
     }
 }

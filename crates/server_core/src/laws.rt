@@ -1,12 +1,13 @@
 //! What an accept core keeps over every list of events.
-ghost use Rattle.std.specs.Prelude.{◌≡◌, ◌≤◌, ◌++◌, [], ◌∷◌, ℕ, Bool, false, List};
+ghost use Rattle.std.specs.Prelude.{◌≡◌, ◌≤◌, ◌<◌, ◌++◌, [], ◌∷◌, ℕ, Bool, true, false, List, length, Some, is_some};
 ghost use Rattle.std.specs.List.{list_any};
-ghost use Rattle.server_core.specs.Core.{Core, IsKept, fresh};
+ghost use Rattle.std.specs.FinSet as set;
+ghost use Rattle.server_core.specs.Core.{Core, IsKept, allowed, first_free, fresh, picked};
 ghost use Rattle.server_core.specs.Ledger.{Ledger, LeadsTo, IsLedgerOf, Moves, AllGoOn, AtMostOneMoves};
 ghost use Rattle.server_core.specs.Runs.{AllAllowed, TakesTurn, after_all, after_any, is_resume};
 ghost use Rattle.server_core.specs.declared.command.Command.TheVariants.{Pause, Stop};
 ghost use Rattle.server_core.specs.declared.event.Event.{Event};
-ghost use Rattle.server_core.specs.declared.event.Event.TheVariants.{Command, Got, Sent};
+ghost use Rattle.server_core.specs.declared.event.Event.TheVariants.{Command, Got, Sent, RingFull};
 
 use crate::accept_core::AcceptCore;
 use crate::event::Event;
@@ -66,4 +67,14 @@ pub fn each_connection_is_in_one_place()
         → AllGoOn before after }
     ensures one_moves { (core : Core) (event : Event) (before after : Ledger) → Moves core event before after
         → AtMostOneMoves before after }
+{}
+
+/// With none passed over, `pick` gives the worker whose turn it is: where a connection waits, it may be sent to that worker,
+/// or that worker's ring may be told to be full.
+pub fn a_pick_may_be_sent()
+    ensures first { (core : Core) → picked core set.empty ≡ first_free core }
+    ensures sent { (core : Core) (worker : ℕ) (remains : Bool) → is_some core.waiting ≡ true → picked core set.empty ≡ Some worker
+        → worker < length core.out → allowed core (Sent worker remains) ≡ true }
+    ensures ring_full { (core : Core) (worker : ℕ) → is_some core.waiting ≡ true → picked core set.empty ≡ Some worker
+        → worker < length core.out → allowed core (RingFull worker) ≡ true }
 {}

@@ -8,7 +8,6 @@ mod event;
 #[cfg(test)]
 mod every_list_tests;
 pub mod laws;
-mod order;
 #[cfg(test)]
 mod plain_server;
 mod ready_answer;
@@ -16,6 +15,9 @@ mod service_status;
 mod stop_answer;
 #[cfg(test)]
 mod tests;
+mod turns;
+#[cfg(test)]
+mod turns_tests;
 mod worker_core;
 #[cfg(test)]
 mod worker_core_tests;

@@ -1,7 +1,9 @@
 //! Sets of workers, and a short run of an accept loop.
 ghost use Rattle.std.specs.Prelude.{◌≡◌, length};
 
-use crate::laws::{any_events, balance_is_kept, none_is_taken_meanwhile, workers_take_turns};
+use crate::laws::{
+    a_pick_may_be_sent, any_events, balance_is_kept, none_is_taken_meanwhile, workers_take_turns,
+};
 use crate::{AcceptCore, Availability, Command, Event};
 use std::test::Fail;
 
@@ -29,7 +31,8 @@ fn marks_of_workers(rt: HostRuntime) {
 
 // Whether the event was allowed; it is carried out then.
 fn happens(core: &mut AcceptCore, event: Event) -> bool
-    ensures { length core.new.out ≡ length core.old.out }
+    ensures workers { length core.new.out ≡ length core.old.out }
+    ensures listeners { length core.new.ended ≡ length core.old.ended }
 {
     if core.allows(&event) {
         core.step(event);
@@ -118,4 +121,23 @@ fn laws(rt: HostRuntime) {
 #[test]
 fn the_law_of_each_connection_can_be_called() {
     crate::laws::each_connection_is_in_one_place();
+}
+
+#[test]
+fn failures_are_counted_until_a_connection(rt: HostRuntime) {
+    let mut core = AcceptCore::new(1, 2);
+    let failed = Event::ListenerFailed(1);
+    assert!(rt; happens(&mut core, failed) && happens(&mut core, failed));
+    assert!(rt; core.failures(1) == 2 && core.failures(0) == 0);
+    assert!(rt; happens(&mut core, Event::Got(1)) && core.failures(1) == 0);
+}
+
+#[test]
+fn a_pick_is_sent(rt: HostRuntime) {
+    a_pick_may_be_sent();
+    let mut core = AcceptCore::new(3, 1);
+    assert!(rt; happens(&mut core, Event::Got(0)));
+    assert!(rt; happens(&mut core, Event::RingFull(0)));
+    let picked = core.pick(&Availability::default());
+    assert!(rt; picked == Some(1) && happens(&mut core, Event::RingFull(1)));
 }

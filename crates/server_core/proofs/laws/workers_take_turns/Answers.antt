@@ -1,4 +1,4 @@
-use Rattle.server_core.proofs.Turns.{takes_turn}
+use Rattle.server_core.proofs.TakenTurns.{takes_turn}
 use Rattle.server_core.proofs.laws.workers_take_turns.Goals as goal
 
 pub returns : goal.returns

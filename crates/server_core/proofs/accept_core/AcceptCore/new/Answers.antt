@@ -3,5 +3,5 @@ use Rattle.server_core.proofs.accept_core.AcceptCore.new.Goals as goal
 
 pub invariant_of-result : goal.invariant_of-result
 invariant_of-result c =
-    rw (c.none_ended.ensures, c.zeros.ensures, c.numbers.ensures, c.all_below.ensures, c.zeros-2.ensures, c.default.ensures)
+    rw (c.none_ended.ensures, c.zeros.ensures, c.new.ensures, c.zeros-2.ensures, c.default.ensures)
     (kept_fresh c.args.workers c.args.listeners c.requires.most_workers)
