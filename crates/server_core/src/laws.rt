@@ -52,10 +52,10 @@ pub fn workers_take_turns()
         → TakesTurn (after_all core before) worker (after_all core (before ++ Sent worker remains ∷ [])).next }
 {}
 
-/// Each connection that was given is in one place by itself: it waits, is at one worker, or is done. Over every list of
-/// allowed events, whichever of those at a worker come back, as many are in each place as the counts tell, and every
-/// allowed event has such a move. None that is done moves again, one at a worker stays there until it is done, and no event
-/// moves two.
+/// Each connection that was given is in one place by itself: it waits, which at most one does, is at one worker, or is done.
+/// Over every list of allowed events, whichever of those at a worker come back, as many are in each place as the counts
+/// tell, and every allowed event has such a move. None that is done moves again, one at a worker stays there until it is
+/// done, and no event moves two.
 pub fn each_connection_is_in_one_place()
     ensures counted { (workers listeners : ℕ) (events : List Event) (ledger : Ledger)
         → AllAllowed (fresh workers listeners) events → LeadsTo (fresh workers listeners) [] events ledger
