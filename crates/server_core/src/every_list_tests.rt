@@ -87,6 +87,8 @@ fn are_alike(core: &AcceptCore, plain: &PlainServer) -> bool
         && core.stopping() == plain.stopping()
         && core.out(0) == plain.out(0) as u64
         && core.out(1) == plain.out(1) as u64
+        && core.failures(0) == plain.failures(0)
+        && core.failures(1) == plain.failures(1)
         && core.next() == plain.next()
         && orders_alike(core, plain)
         && picks_alike(core, plain)
