@@ -1,5 +1,5 @@
 //! A script, and what it asks for.
-ghost use Rattle.std.specs.Prelude.{◌≡◌, ◌&&◌, ◌||◌, ◌==◌, ◌<◌, ◌+◌, ℕ, List, [], length, IfOk, Option};
+ghost use Rattle.std.specs.Prelude.{◌≡◌, ◌&&◌, ◌||◌, ◌==◌, ◌<◌, ◌+◌, ◌++◌, ℕ, List, [], length, IfOk, Option};
 ghost use Rattle.std.specs.List.{slice_split};
 ghost use Rattle.std.specs.Option.{option_map};
 ghost use Rattle.server_program.specs.Script.{with_listener, with_handler, with_policy, with_connection, with_bytes, with_line, after_line, nothing_yet, plan_of};
@@ -35,6 +35,16 @@ pub struct Connection {
     pub peer: Peer,
     /// The bytes that it gives.
     pub held: Octets,
+}
+
+impl Connection {
+    // The connection gives these bytes too.
+    fn with_bytes(mut self, bytes: &Octets) -> Result<Connection, AllocError>
+        ensures { IfOk result (λ more. more ≡ record self { held = self.held ++ bytes.now }) }
+    {
+        self.held.push_all(bytes.as_bytes())?;
+        Ok(self)
+    }
 }
 
 /// What a script was read as.
@@ -98,34 +108,24 @@ impl Script {
         }
     }
 
-    fn with_listener(self) -> Option<Script>
+    fn with_listener(mut self) -> Option<Script>
         ensures { option_map plan result ≡ with_listener (plan self) }
     {
         if self.listening {
             return None;
         }
-        Some(Script {
-            cors: self.cors,
-            has_policy: self.has_policy,
-            handler: self.handler,
-            listening: true,
-            connection: self.connection,
-        })
+        self.listening = true;
+        Some(self)
     }
 
-    fn with_handler(self, handler: Handler) -> Option<Script>
+    fn with_handler(mut self, handler: Handler) -> Option<Script>
         ensures { option_map plan result ≡ with_handler (plan self) handler }
     {
         if self.listening {
             return None;
         }
-        Some(Script {
-            cors: self.cors,
-            has_policy: self.has_policy,
-            handler,
-            listening: self.listening,
-            connection: self.connection,
-        })
+        self.handler = handler;
+        Some(self)
     }
 
     // Whether the policy line can't stand here.
@@ -150,44 +150,26 @@ impl Script {
         }))
     }
 
-    fn with_connection(self, alloc: Global, peer: Peer) -> Option<Script>
+    fn with_connection(mut self, alloc: Global, peer: Peer) -> Option<Script>
         ensures { option_map plan result ≡ with_connection (plan self) peer }
     {
         if !self.listening || self.connection.is_some() {
             return None;
         }
-        Some(Script {
-            cors: self.cors,
-            has_policy: self.has_policy,
-            handler: self.handler,
-            listening: true,
-            connection: Some(Connection {
-                peer,
-                held: Octets::new(alloc),
-            }),
-        })
+        self.connection = Some(Connection {
+            peer,
+            held: Octets::new(alloc),
+        });
+        Some(self)
     }
 
-    fn with_bytes(self, bytes: &Octets) -> Result<Option<Script>, AllocError>
+    fn with_bytes(mut self, bytes: &Octets) -> Result<Option<Script>, AllocError>
         ensures { IfOk result (λ next. option_map plan next ≡ with_bytes (plan self) bytes.now) }
     {
-        let Script {
-            cors,
-            has_policy,
-            handler,
-            listening,
-            connection,
-        } = self;
-        let Some(mut connection) = connection else {
+        let Some(connection) = self.connection.take() else {
             return Ok(None);
         };
-        connection.held.push_all(bytes.as_bytes())?;
-        Ok(Some(Script {
-            cors,
-            has_policy,
-            handler,
-            listening,
-            connection: Some(connection),
-        }))
+        self.connection = Some(connection.with_bytes(bytes)?);
+        Ok(Some(self))
     }
 }

@@ -12,7 +12,8 @@ use crate::words::{is_replay, words_of};
 use crate::writing::write_all;
 use cors_policy::ConfigError;
 use service_core::{Octets, Peer};
-use std::alloc::{AllocError, Global};
+use std::alloc::{AllocError, AllocGlobal, Global};
+use std::process::Abort;
 use std::test::Fail;
 
 /// The number of a script's bad line. 0 where it has none.
@@ -32,176 +33,218 @@ fn script_of(alloc: Global, text: &[u8]) -> Result<Script, AllocError> {
 }
 
 #[test]
-fn a_script_asks_for_a_listener_and_a_connection(rt: HostRuntime) -> Result<(), Fail> {
+fn a_script_asks_for_a_listener(rt: HostRuntime) -> Result<(), Fail> {
     let alloc = rt.alloc();
-    assert!(rt; !script_of(alloc, b"")?.listening);
-    assert!(rt; !script_of(alloc, b"# listener\n")?.listening);
-    let script = script_of(alloc, b"listener")?;
-    assert!(rt; script.listening);
-    assert!(rt; script.connection.is_none());
-    let text = b"# first\n\nlistener\nconn 10.0.0.1:80\ngive ab\n#give x\ngive cd \n";
-    let connection = script_of(alloc, text)?
-        .connection
-        .expect(&rt, "a connection");
-    assert_eq!(rt;
-        connection.peer,
-        Peer::V4 {
-            host: 0x0a00_0001,
-            port: 80
-        }
-    );
-    assert_eq!(rt; connection.held.as_bytes(), b"abcd ".as_slice());
+    for (text, listening) in [("", false), ("# listener\n", false), ("listener", true)] {
+        let script = script_of(alloc, text.as_bytes())?;
+        assert_eq!(rt; script.listening, listening);
+        assert!(rt; script.connection.is_none());
+    }
     Ok(())
 }
 
 #[test]
+fn a_script_asks_for_a_connection(rt: HostRuntime) -> Result<(), Fail> {
+    let text = b"# first\n\nlistener\nconn 10.0.0.1:80\ngive ab\n#give x\ngive cd \n";
+    let connection = script_of(rt.alloc(), text)?
+        .connection
+        .expect(&rt, "a connection");
+    let peer = Peer::V4 {
+        host: 0x0a00_0001,
+        port: 80,
+    };
+    assert_eq!(rt; connection.peer, peer);
+    assert_eq!(rt; connection.held.as_bytes(), b"abcd ".as_slice());
+    Ok(())
+}
+
+// What a `give` line gives.
+const ESCAPES: [(&str, &[u8]); 11] = [
+    ("give \\r", b"\r"),
+    ("give \\n", b"\n"),
+    ("give \\t", b"\t"),
+    ("give \\\"", b"\""),
+    ("give \"", b"\""),
+    ("give \\\\", b"\\"),
+    ("give \\\\n", b"\\n"),
+    ("give \\x00", b"\x00"),
+    ("give \\x41\\x6a\\x6A", b"Ajj"),
+    ("give \\xfF\\xAa", b"\xff\xaa"),
+    ("give  a b ", b" a b "),
+];
+
+// The bytes that the connection with the line holds.
+fn held_by(alloc: Global, line: &str) -> Result<Octets, AllocError> {
+    let mut script = Vec::from_slice(alloc, b"listener\nconn local\n")?;
+    script.extend_from_slice(line.as_bytes())?;
+    match script_of(alloc, &script)?.connection {
+        Some(connection) => Ok(connection.held),
+        None => Ok(Octets::new(alloc)),
+    }
+}
+
+#[test]
 fn each_escape_stands_for_its_byte(rt: HostRuntime) -> Result<(), Fail> {
-    let alloc = rt.alloc();
-    for (text, want) in [
-        (b"give \\r".as_slice(), b"\r".as_slice()),
-        (b"give \\n", b"\n"),
-        (b"give \\t", b"\t"),
-        (b"give \\\"", b"\""),
-        (b"give \"", b"\""),
-        (b"give \\\\", b"\\"),
-        (b"give \\\\n", b"\\n"),
-        (b"give \\x00", b"\x00"),
-        (b"give \\x41\\x6a\\x6A", b"Ajj"),
-        (b"give \\xfF\\xAa", b"\xff\xaa"),
-        (b"give  a b ", b" a b "),
-    ] {
-        let mut script = Vec::from_slice(alloc, b"listener\nconn local\n")?;
-        script.extend_from_slice(text)?;
-        let connection = script_of(alloc, &script)?
-            .connection
-            .expect(&rt, "a connection");
-        assert_eq!(rt; connection.held.as_bytes(), want);
-        assert_eq!(rt; connection.peer, Peer::Local);
+    for (line, wanted) in ESCAPES {
+        assert_eq!(rt; held_by(rt.alloc(), line)?.as_bytes(), wanted, "{line:?}");
     }
     Ok(())
 }
+
+// Texts that are no peer's.
+const NO_PEERS: [&str; 22] = [
+    "",
+    "Local",
+    "local ",
+    " local",
+    "1.2.3.4",
+    "1.2.3.4:",
+    ":80",
+    "1.2.3:80",
+    "1.2.3.4.5:80",
+    "1..3.4:80",
+    "01.2.3.4:80",
+    "1.2.3.00:80",
+    "256.2.3.4:80",
+    "1.2.3.256:80",
+    "1.2.3.4:080",
+    "1.2.3.4:65536",
+    "1.2.3.4:99999999999999999999",
+    "1.2.3.4:80:80",
+    "1.2.3.4: 80",
+    "1.2.3.4:80 ",
+    "+1.2.3.4:80",
+    "a.2.3.4:80",
+];
 
 #[test]
 fn a_peer_is_local_or_an_address_with_a_port(rt: HostRuntime) {
     assert_eq!(rt; read_peer(b"local"), Some(Peer::Local));
     for (text, host, port) in [
-        (b"0.0.0.0:0".as_slice(), 0, 0),
-        (b"1.2.3.4:5", 0x0102_0304, 5),
-        (b"127.0.0.1:8080", 0x7f00_0001, 8080),
-        (b"255.255.255.255:65535", 0xffff_ffff, 65535),
+        ("0.0.0.0:0", 0, 0),
+        ("1.2.3.4:5", 0x0102_0304, 5),
+        ("127.0.0.1:8080", 0x7f00_0001, 8080),
+        ("255.255.255.255:65535", 0xffff_ffff, 65535),
     ] {
-        assert_eq!(rt; read_peer(text), Some(Peer::V4 { host, port }));
-    }
-    for text in [
-        b"".as_slice(),
-        b"Local",
-        b"local ",
-        b" local",
-        b"1.2.3.4",
-        b"1.2.3.4:",
-        b":80",
-        b"1.2.3:80",
-        b"1.2.3.4.5:80",
-        b"1..3.4:80",
-        b"01.2.3.4:80",
-        b"1.2.3.00:80",
-        b"256.2.3.4:80",
-        b"1.2.3.256:80",
-        b"1.2.3.4:080",
-        b"1.2.3.4:65536",
-        b"1.2.3.4:99999999999999999999",
-        b"1.2.3.4:80:80",
-        b"1.2.3.4: 80",
-        b"1.2.3.4:80 ",
-        b"+1.2.3.4:80",
-        b"a.2.3.4:80",
-    ] {
-        assert_eq!(rt; read_peer(text), None);
+        assert_eq!(rt; read_peer(text.as_bytes()), Some(Peer::V4 { host, port }));
     }
 }
 
 #[test]
-fn the_first_bad_line_is_told_by_its_number(rt: HostRuntime) -> Result<(), Fail> {
-    let alloc = rt.alloc();
-    for (text, number) in [
-        (b"".as_slice(), 0),
-        (b"\n\n#\n", 0),
-        (b"listener\nconn local\ngive a", 0),
-        (b"workers 0", 1),
-        (b"# a\x09b\nlistener", 1),
-        (b"# a\n# \x7f", 2),
-        (b"#\xc3\xa4", 1),
-        (b"listener\r\nconn local\r\n", 1),
-        (b"\n\nlistener\n\nlistener\n", 5),
-        (b"conn local\nlistener", 1),
-        (b"listener\ngive a\nconn local", 2),
-        (b"listener\nconn local\n#\nconn local\n", 4),
-        (b"listener\nconn  local", 2),
-        (b"listener\nconn", 2),
-        (b"listener \n", 1),
-        (b" listener\n", 1),
-        (b"Listener\n", 1),
-        (b"listener\nconn local\ngive\n", 3),
-        (b"listener\nconn local\ngive \n", 3),
-        (b"listener\nconn local\ngive a\\", 3),
-        (b"listener\nconn local\ngive \\q", 3),
-        (b"listener\nconn local\ngive \\x4", 3),
-        (b"listener\nconn local\ngive \\x4g", 3),
-        (b"listener\nconn local\ngive \\X41", 3),
-        (b"listener\nconn local\ngive a\nbad\nworse", 4),
-        (b"origin https://a.example\norigin *\nlistener", 0),
-        (b"origin", 1),
-        (b"origin ", 1),
-        (b"Origin /x", 1),
-        (b"\norigins /x", 2),
-        (b"listener\norigin /x", 2),
-        (b"origin \xc3\xa4", 1),
-        (
-            b"permissive\nany-origin\nany-method\nany-header\nexpose-any\nwildcard\nblock",
-            0,
-        ),
-        (
-            b"credentials\nno-vary\nno-preflight\nrule always\nrule dnt\nrule rust-lang",
-            0,
-        ),
-        (
-            b"methods GET\nheader a b\nheaders a b\nexpose a\nmax-age none\nmax-age 0",
-            0,
-        ),
-        (b"max-age 18446744073709551615", 0),
-        (b"max-age 18446744073709551616", 1),
-        (b"max-age 01", 1),
-        (b"max-age", 1),
-        (b"max-age -1", 1),
-        (b"permissive\npermissive", 2),
-        (b"block\npermissive", 2),
-        (b"listener\nblock", 2),
-        (b"methods", 1),
-        (b"methods ", 1),
-        (b"methods GET  PUT", 1),
-        (b"headers a ", 1),
-        (b"expose  a", 1),
-        (b"rule", 1),
-        (b"rule other", 1),
-        (b"Block", 1),
-        (b"block ", 1),
-        (b"any-Origin", 1),
-        (
-            b"handler hello\nhandler peer\nblock\nhandler fail\npermissive",
-            5,
-        ),
-        (
-            b"handler hello\nhandler peer\npermissive\nhandler fail\nblock",
-            0,
-        ),
-        (b"handler", 1),
-        (b"handler none", 1),
-        (b"handler hello ", 1),
-        (b"listener\nhandler hello", 2),
-    ] {
-        assert_eq!(rt; bad_line(alloc, text)?, number);
+fn other_texts_are_no_peers(rt: HostRuntime) {
+    for text in NO_PEERS {
+        assert_eq!(rt; read_peer(text.as_bytes()), None, "{text:?}");
+    }
+}
+
+// Lines of listeners and connections, and the number of the first bad one.
+const LINES: [(&str, usize); 17] = [
+    ("", 0),
+    ("\n\n#\n", 0),
+    ("workers 0", 1),
+    ("# a\tb\nlistener", 1),
+    ("# a\n# \x7f", 2),
+    ("#ä", 1),
+    ("listener\r\nconn local\r\n", 1),
+    ("\n\nlistener\n\nlistener\n", 5),
+    ("conn local\nlistener", 1),
+    ("listener\nconn local\n#\nconn local\n", 4),
+    ("listener\nconn  local", 2),
+    ("listener\nconn", 2),
+    ("listener \n", 1),
+    (" listener\n", 1),
+    ("Listener\n", 1),
+    ("Origin /x", 1),
+    ("Block", 1),
+];
+
+// The same of `give` lines.
+const GIVE_LINES: [(&str, usize); 10] = [
+    ("listener\nconn local\ngive a", 0),
+    ("listener\ngive a\nconn local", 2),
+    ("listener\nconn local\ngive\n", 3),
+    ("listener\nconn local\ngive \n", 3),
+    ("listener\nconn local\ngive a\\", 3),
+    ("listener\nconn local\ngive \\q", 3),
+    ("listener\nconn local\ngive \\x4", 3),
+    ("listener\nconn local\ngive \\x4g", 3),
+    ("listener\nconn local\ngive \\X41", 3),
+    ("listener\nconn local\ngive a\nbad\nworse", 4),
+];
+
+// The same of policy lines.
+const POLICY_LINES: [(&str, usize); 26] = [
+    ("origin https://a.example\norigin *\nlistener", 0),
+    ("origin", 1),
+    ("origin ", 1),
+    ("\norigins /x", 2),
+    ("listener\norigin /x", 2),
+    ("origin ä", 1),
+    (
+        "permissive\nany-origin\nany-method\nany-header\nexpose-any\nwildcard\nblock",
+        0,
+    ),
+    (
+        "credentials\nno-vary\nno-preflight\nrule always\nrule dnt\nrule rust-lang",
+        0,
+    ),
+    (
+        "methods GET\nheader a b\nheaders a b\nexpose a\nmax-age none\nmax-age 0",
+        0,
+    ),
+    ("max-age 18446744073709551615", 0),
+    ("max-age 18446744073709551616", 1),
+    ("max-age 01", 1),
+    ("max-age", 1),
+    ("max-age -1", 1),
+    ("permissive\npermissive", 2),
+    ("block\npermissive", 2),
+    ("listener\nblock", 2),
+    ("methods", 1),
+    ("methods ", 1),
+    ("methods GET  PUT", 1),
+    ("headers a ", 1),
+    ("expose  a", 1),
+    ("rule", 1),
+    ("rule other", 1),
+    ("block ", 1),
+    ("any-Origin", 1),
+];
+
+// The same of `handler` lines.
+const HANDLER_LINES: [(&str, usize); 6] = [
+    (
+        "handler hello\nhandler peer\nblock\nhandler fail\npermissive",
+        5,
+    ),
+    (
+        "handler hello\nhandler peer\npermissive\nhandler fail\nblock",
+        0,
+    ),
+    ("handler", 1),
+    ("handler none", 1),
+    ("handler hello ", 1),
+    ("listener\nhandler hello", 2),
+];
+
+// The first bad line of each script is the one told.
+fn are_told<R: Abort + AllocGlobal>(rt: &R, rows: &[(&str, usize)]) -> Result<(), Fail> {
+    for (text, number) in rows {
+        assert_eq!(rt; bad_line(rt.alloc(), text.as_bytes())?, *number, "{text:?}");
     }
     Ok(())
+}
+
+#[test]
+fn the_first_bad_line_is_told_by_its_number(rt: HostRuntime) -> Result<(), Fail> {
+    are_told(&rt, &LINES)?;
+    are_told(&rt, &GIVE_LINES)
+}
+
+#[test]
+fn the_first_bad_policy_line_is_told_by_its_number(rt: HostRuntime) -> Result<(), Fail> {
+    are_told(&rt, &POLICY_LINES)?;
+    are_told(&rt, &HANDLER_LINES)
 }
 
 #[test]
@@ -292,31 +335,30 @@ fn origin_lines_make_a_policy(rt: HostRuntime) -> Result<(), Fail> {
     Ok(())
 }
 
+// The error that a policy of these lines keeps.
+const ODD_ORIGINS: [(&str, Option<ConfigError>); 13] = [
+    ("origin a:b@c", None),
+    ("origin /x", None),
+    ("origin localhost:3000", None),
+    ("origin http://[::1]:8080", None),
+    ("origin HTTPS://A.example", None),
+    ("origin null", None),
+    ("origin *", Some(ConfigError::WildcardOrigin)),
+    ("origin  https://a.example", Some(ConfigError::BadOriginUri)),
+    ("origin a ", Some(ConfigError::BadOriginUri)),
+    ("origin http://", Some(ConfigError::BadOriginUri)),
+    ("origin a:b:c", Some(ConfigError::BadOriginUri)),
+    ("origin a b\norigin *", Some(ConfigError::BadOriginUri)),
+    (
+        "origin *\norigin a b\norigin /x",
+        Some(ConfigError::WildcardOrigin),
+    ),
+];
+
 #[test]
 fn odd_origins_are_kept_or_refused_by_cause(rt: HostRuntime) -> Result<(), Fail> {
-    let alloc = rt.alloc();
-    for (text, error) in [
-        (b"origin a:b@c".as_slice(), None),
-        (b"origin /x", None),
-        (b"origin localhost:3000", None),
-        (b"origin http://[::1]:8080", None),
-        (b"origin HTTPS://A.example", None),
-        (b"origin null", None),
-        (b"origin *", Some(ConfigError::WildcardOrigin)),
-        (
-            b"origin  https://a.example",
-            Some(ConfigError::BadOriginUri),
-        ),
-        (b"origin a b", Some(ConfigError::BadOriginUri)),
-        (b"origin http://", Some(ConfigError::BadOriginUri)),
-        (b"origin a:b:c", Some(ConfigError::BadOriginUri)),
-        (b"origin a b\norigin *", Some(ConfigError::BadOriginUri)),
-        (
-            b"origin *\norigin a b\norigin /x",
-            Some(ConfigError::WildcardOrigin),
-        ),
-    ] {
-        assert_eq!(rt; kept(alloc, text)?, error);
+    for (text, error) in ODD_ORIGINS {
+        assert_eq!(rt; kept(rt.alloc(), text.as_bytes())?, error, "{text:?}");
     }
     Ok(())
 }
