@@ -1,0 +1,36 @@
+ghost use Rattle.std.specs.Prelude.{◌≡◌};
+
+use crate::headers::Header;
+use service_core::Octets;
+use std::marker::Model;
+
+/// A request's head. Contracts see that of the definitions.
+#[derive(Drop)]
+pub struct Head {
+    pub method: Octets,
+    pub target: Octets,
+    pub minor: u8,
+    pub headers: Vec<Header>,
+}
+
+impl Model for Head {
+    ghost use Rattle.http1_grammar.specs.Head.{Head as Parts};
+
+    ghost Value = { Parts };
+
+    ghost view = { λ h. record { method = h.method; target = h.target; minor = h.minor; headers = h.headers.items } };
+}
+
+impl Head {
+    pub(crate) fn method(&self) -> &[u8]
+        ensures { result.now ≡ self.now.method }
+    {
+        self.method.as_bytes()
+    }
+
+    pub(crate) fn headers(&self) -> &[Header]
+        ensures { result.now ≡ self.now.headers }
+    {
+        &self.headers
+    }
+}
