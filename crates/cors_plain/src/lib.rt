@@ -13,6 +13,8 @@ mod preflights;
 mod requested;
 mod response;
 mod rule;
+#[cfg(test)]
+mod table;
 mod texts;
 mod verdict;
 
