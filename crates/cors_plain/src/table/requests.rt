@@ -34,7 +34,7 @@ const POST: Field = ("access-control-request-method", b"POST");
 
 const PUT: Field = ("ACCESS-CONTROL-REQUEST-METHOD", b"PUT");
 
-pub(super) const REQUESTS: [Asked; 54] = [
+pub(super) const REQUESTS: [Asked; 52] = [
     By("GET", &[]),
     By("GET", &[A]),
     By("GET", &[B]),
@@ -165,9 +165,10 @@ pub(super) const REQUESTS: [Asked; 54] = [
             ("Access-Control-Request-Headers", b"A"),
         ],
     ),
-    ForLongName(10),
-    ForLongName(11),
 ];
+
+/// A name may have 65,535 bytes.
+pub(super) const LONG_NAMES: [Asked; 2] = [ForLongName(65535), ForLongName(65536)];
 
 // A header as the middleware is given it.
 fn append(
