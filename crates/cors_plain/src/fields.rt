@@ -1,6 +1,6 @@
 //! The header fields that a policy writes.
 ghost use Rattle.std.specs.Prelude.{◌≡◌, ◌++◌, codes, option_map, IfOk};
-ghost use Rattle.cors_rules.specs.Fields.{add_vary, allowed_value, augment, exposed_value, field, replace, vary, vary_text, vary_value, when};
+ghost use Rattle.cors_rules.specs.Fields.{add_vary, allowed_value, augment, exposed_value, field, replace, vary, vary_value, when};
 
 use crate::headers::{Header, get, header, insert};
 use crate::policy::Policy;

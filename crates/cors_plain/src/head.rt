@@ -7,9 +7,13 @@ use std::marker::Model;
 /// A request's head. Contracts see that of the definitions.
 #[derive(Drop)]
 pub struct Head {
+    /// What is asked to be done.
     pub method: Octets,
+    /// On what, as it was sent.
     pub target: Octets,
+    /// 0 or 1, of HTTP/1.0 or HTTP/1.1.
     pub minor: u8,
+    /// Its headers in order.
     pub headers: Vec<Header>,
 }
 

@@ -1,6 +1,6 @@
 //! Lists of header fields.
-ghost use Rattle.std.specs.Prelude.{◌≡◌, ◌∷◌, ◌++◌, [], length, IfOk, option_map};
-ghost use Rattle.http1_grammar.specs.Headers.{get, insert, is_named, remove};
+ghost use Rattle.std.specs.Prelude.{◌≡◌, IfOk, option_map};
+ghost use Rattle.http1_grammar.specs.Headers.{get, insert, remove};
 
 use service_core::Octets;
 use std::alloc::{AllocError, Global};

@@ -1,5 +1,5 @@
 //! Whether the policy grants a request its origin (Fetch Standard, "CORS check").
-ghost use Rattle.std.specs.Prelude.{◌≡◌, option_map, ◌||◌};
+ghost use Rattle.std.specs.Prelude.{◌≡◌, option_map};
 ghost use Rattle.std.specs.List.{list_any};
 ghost use Rattle.cors_rules.specs.Allowed.{finite_part};
 ghost use Rattle.cors_rules.specs.Sets.{holds};

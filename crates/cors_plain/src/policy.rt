@@ -1,4 +1,4 @@
-ghost use Rattle.std.specs.Prelude.{◌≡◌, ◌++◌, ◌∷◌, [], IfOk, IfErr, OnOk};
+ghost use Rattle.std.specs.Prelude.{◌≡◌, ◌++◌, ◌∷◌, [], IfOk};
 ghost use Rattle.http_header.specs.Token.{lowercase};
 ghost use Rattle.cors_rules.specs.Policy.{strict};
 ghost use Rattle.cors_rules.specs.Sets.{with};
@@ -14,16 +14,27 @@ use std::marker::Model;
 /// A policy, with lists. Contracts see that of the definitions.
 #[derive(Drop)]
 pub struct Policy {
+    /// The origins that are granted.
     pub origins: AllOrSome<Texts>,
+    /// Each may allow further origins.
     pub rules: Vec<Rule>,
+    /// The methods that a preflight may ask for.
     pub methods: Texts,
+    /// The request headers that it may ask for, in lower case.
     pub headers: AllOrSome<Texts>,
+    /// The response headers that a page may read, in lower case.
     pub exposed: AllOrSome<Texts>,
+    /// How many seconds a preflight's answer may be kept.
     pub max_age: Option<u64>,
+    /// Whether preflights are answered here.
     pub preflight: bool,
+    /// Whether a grant to all is written as `*`.
     pub wildcard: bool,
+    /// Whether pages may send credentials.
     pub credentials: bool,
+    /// Whether answers name what they depend on.
     pub vary: bool,
+    /// Whether a request is refused where its origin is not granted.
     pub block: bool,
 }
 

@@ -1,6 +1,6 @@
 //! The answer to a preflight (Fetch Standard, "CORS protocol").
 ghost use Rattle.std.specs.Prelude.{◌≡◌, decimal, option_map, IfOk};
-ghost use Rattle.cors_rules.specs.Answers.{preflight, preflight_answer, preflight_check, preflight_headers, refused};
+ghost use Rattle.cors_rules.specs.Answers.{preflight, preflight_check, preflight_headers, refused};
 ghost use Rattle.cors_plain.specs.Rules.{allowed_by};
 
 use crate::fields::{allowed_value, and_field, bytes_of, true_where, vary};

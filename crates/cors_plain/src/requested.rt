@@ -3,7 +3,7 @@ ghost use Rattle.std.specs.Prelude.{◌≡◌, map, option_map, IfOk, false};
 ghost use Rattle.std.specs.List.{list_all};
 ghost use Rattle.std.specs.Option.{option_map_or};
 ghost use Rattle.cors_rules.specs.Building.{is_token};
-ghost use Rattle.cors_rules.specs.Requested.{asked_headers, asked_method, holds_item, is_item_name, is_preflight, validate_allowed_headers, validate_allowed_method, validate_headers, validate_items, validate_method, validate_value};
+ghost use Rattle.cors_rules.specs.Requested.{asked_headers, asked_method, holds_item, is_item_name, is_preflight, validate_allowed_headers, validate_allowed_method, validate_items, validate_value};
 
 use crate::bytes::{are_visible_or_blank, is_header_name, is_token, items, lowercase, trim_ows};
 use crate::head::Head;

@@ -1,15 +1,15 @@
-ghost use Rattle.std.specs.Prelude.{◌≡◌, [], IfOk};
-
 use crate::headers::Header;
 use service_core::Octets;
-use std::alloc::{AllocError, Global};
 use std::marker::Model;
 
 /// A response. Contracts see that of the definitions.
 #[derive(Drop)]
 pub struct Response {
+    /// Its status.
     pub status: u16,
+    /// Its headers in order.
     pub headers: Vec<Header>,
+    /// The bytes of its body.
     pub body: Octets,
 }
 

@@ -1,4 +1,4 @@
-ghost use Rattle.std.specs.Prelude.{◌≡◌, [], fold, map, IfOk, option_map};
+ghost use Rattle.std.specs.Prelude.{◌≡◌, [], fold, map, IfOk};
 ghost use Rattle.cors_rules.specs.Sets.{holds, joined, joined_some, names_in, with};
 
 use crate::headers::Header;

@@ -1,5 +1,5 @@
 //! What becomes of a request.
-ghost use Rattle.std.specs.Prelude.{◌≡◌, [], IfOk};
+ghost use Rattle.std.specs.Prelude.{◌≡◌, IfOk};
 ghost use Rattle.cors_rules.specs.Answers.{by_grant, handed_on, judged, verdict};
 ghost use Rattle.cors_rules.specs.Origins.{granted_value};
 ghost use Rattle.cors_plain.specs.Rules.{allowed_by};

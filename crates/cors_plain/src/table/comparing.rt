@@ -13,7 +13,7 @@ use crate::requested::is_preflight;
 use crate::response::Response as Plain;
 use crate::rule::Rule;
 use crate::verdict::{Verdict, verdict_on};
-use cors_policy::{Cors, CorsFault, CorsInitError, CorsMiddleware};
+use cors_policy::{CorsFault, CorsInitError, CorsMiddleware};
 use futures::task::Poll;
 use futures::test::MockTask;
 use http::method::Method;
@@ -181,8 +181,8 @@ fn table(site: &Site) -> Result<Tally, AllocError> {
     Ok(tally)
 }
 
-// How often each kind of answer comes, and the digest of all answers. Both were computed apart, from the table and the Fetch
-// Standard, by a program in another language.
+// How often each kind of answer comes, and the digest of all answers. Both were computed from the table alone, by a program
+// of its own in another language.
 const EXPECTED: Tally = Tally {
     pairs: 6448,
     first_other: None,
