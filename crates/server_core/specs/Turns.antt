@@ -1,5 +1,5 @@
 -- The turns of the workers, as their table of places keeps them.
-use Rattle.std.specs.Prelude.{◌≡◌, ℕ, ◌<◌, List, length, map, Option, Some, None, slice_index, slice_index_or, true, refl}
+use Rattle.std.specs.Prelude.{◌≡◌, ℕ, ◌<◌, ◌&&◌, Bool, not, List, length, map, Option, Some, None, slice_index, slice_index_or, true, refl}
 use Rattle.std.specs.Coded.{Coded, code_by, coded×, coded_ℕ, coded_list}
 use Rattle.std.specs.List.{filter, range_with_len}
 use Rattle.std.specs.FinSet as set
@@ -30,3 +30,7 @@ pub record ArePlaces (order : List ℕ) (places : List (Option ℕ)) : Type 0 wh
 -- no place behind the order is marked
 abbrev pub AreWithin : Numbers → List ℕ → Type 0
 AreWithin marks order = (k : ℕ) → set.contains marks k ≡ true → k < length order
+
+-- w is free and isn't passed over
+abbrev pub is_left : Numbers → Numbers → ℕ → Bool
+is_left free passed w = set.contains free w && not (set.contains passed w)

@@ -1,8 +1,9 @@
 // The turns of the workers.
-ghost use Rattle.std.specs.Prelude.{◌≡◌, ◌<◌, ◌≤◌, ◌++◌, ◌==◌, ◌&&◌, ◌∷◌, [], not, cond, find, drop, true, false, is_some, length, Option, None};
+ghost use Rattle.std.specs.Prelude.{◌≡◌, ◌<◌, ◌≤◌, ◌++◌, ◌==◌, ◌∷◌, [], cond, find, drop, true, false, is_some, length, Option, None};
 ghost use Rattle.std.specs.List.{position, range_with_len};
 ghost use Rattle.std.specs.FinSet as set;
 ghost use Rattle.server_core.specs.Core.{in_order, place_or_first, behind, round, without};
+ghost use Rattle.server_core.specs.Turns.{is_left};
 
 use crate::availability::Availability;
 use arrayvec::ArrayVec;
@@ -40,8 +41,8 @@ fn place_or_first(order: &[u16], k: usize) -> usize
     if k < order.len() { k } else { 0 }
 }
 
-// No worker.
 impl Default for Turns {
+    /// No worker.
     fn default() -> Self
         ensures { result ≡ record { order = []; next = 0; free = set.empty } }
     {
@@ -103,7 +104,7 @@ impl Turns {
 
     // The first worker, from the place `from` on, that is free and not passed over.
     fn first_from(&self, mut from: usize, passed: &Availability) -> Option<usize>
-        ensures { result ≡ find (λ w. set.contains self.now.free w && not (set.contains passed.now w)) (drop from self.now.order) }
+        ensures { result ≡ find (is_left self.now.free passed.now) (drop from self.now.order) }
     {
         while let Some(place) = self.free.first_from(from) {
             let w = usize::from(self.order[place]);
@@ -117,12 +118,10 @@ impl Turns {
 
     /// The first worker, from the place that is asked first and round, that is free and not passed over.
     pub fn first(&self, passed: &Availability) -> Option<usize>
-        ensures { result ≡ find (λ w. set.contains self.now.free w && not (set.contains passed.now w)) (round self.now.order self.now.next) }
+        ensures { result ≡ find (is_left self.now.free passed.now) (round self.now.order self.now.next) }
     {
-        match self.first_from(self.next, passed) {
-            Some(w) => Some(w),
-            None => self.first_from(0, passed),
-        }
+        self.first_from(self.next, passed)
+            .or_else(|| self.first_from(0, passed))
     }
 }
 
@@ -162,7 +161,7 @@ impl Turns {
     pub fn add(&mut self, w: usize)
         requires number { w < 512 }
         requires room { length self.old.order < 512 }
-        requires new { in_order self.old.order w ≡ false }
+        requires absent { in_order self.old.order w ≡ false }
         ensures { self.new ≡ record self.old {
           order = self.old.order ++ w ∷ [];
           free = set.insert self.old.free w;

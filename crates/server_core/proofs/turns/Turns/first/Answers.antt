@@ -1,18 +1,12 @@
-use Rattle.std.proofs.Common.{ap, ◌∙◌}
-use Rattle.std.specs.Prelude.{◌&&◌, not, find}
-use Rattle.std.specs.FinSet as set
+use Rattle.std.proofs.Common.{◌≡◌, Some, rules, ap, ◌∙◌}
+use Rattle.std.specs.Prelude.{find, MatchOption}
 use Rattle.server_core.specs.Core.{round}
-use Rattle.server_core.specs.Turns.{Rota}
-use Rattle.server_core.proofs.Walks.{round_some, round_none}
+use Rattle.server_core.specs.Turns.{Rota, is_left}
+use Rattle.server_core.proofs.Walks.{round_or}
 use Rattle.server_core.proofs.turns.Turns.first.Goals as goal
 
-pub returns-in-Some : goal.returns-in-Some
-returns-in-Some c =
-    round_some (λ w. set.contains c.args.self.now.free w && not (set.contains c.args.passed.now w)) c.args.self.now.order c.self.inside.next c.in-Some.w c.in-Some.ensures
-    ∙ ap (λ (r : Rota). find (λ w. set.contains c.args.self.now.free w && not (set.contains c.args.passed.now w)) (round c.args.self.now.order r.next)) c.self.view_is
-
-pub returns-in-None : goal.returns-in-None
-returns-in-None c =
-    c.first_from-in-None.ensures
-    ∙ round_none (λ w. set.contains c.args.self.now.free w && not (set.contains c.args.passed.now w)) c.args.self.now.order c.self.inside.next c.in-None.ensures
-    ∙ ap (λ (r : Rota). find (λ w. set.contains c.args.self.now.free w && not (set.contains c.args.passed.now w)) (round c.args.self.now.order r.next)) c.self.view_is
+pub returns : goal.returns
+returns c =
+    let either : MatchOption c.first_from.result (c.or_else.result ≡ find (is_left c.args.self.now.free c.args.passed.now) c.args.self.now.order) (λ w. c.or_else.result ≡ Some w) = search rules in
+    round_or (is_left c.args.self.now.free c.args.passed.now) c.args.self.now.order c.self.inside.next c.first_from.result c.or_else.result c.first_from.ensures either
+    ∙ ap (λ (r : Rota). find (is_left c.args.self.now.free c.args.passed.now) (round c.args.self.now.order r.next)) c.self.view_is

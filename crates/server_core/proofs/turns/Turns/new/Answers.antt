@@ -11,8 +11,8 @@ add-requires-clause-room c =
     let size : length c.loop-w.turns.order ≡ c.loop-w.w = ap (λ (r : Rota). length r.order) c.loop-w.invariant ∙ length-range_with_len 0 c.loop-w.w in
     omega arith
 
-pub add-requires-clause-new : goal.add-requires-clause-new
-add-requires-clause-new c = ap (λ (r : Rota). in_order r.order c.loop-w.w) c.loop-w.invariant ∙ past_range c.loop-w.w
+pub add-requires-clause-absent : goal.add-requires-clause-absent
+add-requires-clause-absent c = ap (λ (r : Rota). in_order r.order c.loop-w.w) c.loop-w.invariant ∙ past_range c.loop-w.w
 
 pub loop-w-preserved : goal.loop-w-preserved
 loop-w-preserved c =
