@@ -5,6 +5,9 @@ ghost use Rattle.std.specs.Cmp.Lexicographic.{slice_cmp};
 ghost use Rattle.http_header.specs.Token.{lowercase};
 ghost use Rattle.cors_rules.specs.Sets.{holds};
 
+#[cfg(test)]
+mod tests;
+
 use http1_plain::FieldValue;
 use std::alloc::{AllocError, Global};
 use std::cmp::Ordering;
