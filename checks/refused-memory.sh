@@ -1,23 +1,117 @@
 #!/usr/bin/env bash
-# Every refused allocation ends as want of memory: replays the first example with the Nth allocation refused, for N from
-# the first number to the last (1 to 60 if none are given), and prints how each run ended. It fails where a run ends
-# with another status or another text than those of want of memory, or of the whole run.
+# Every refused allocation ends as want of memory. Replays each example and runs each test with its first allocation
+# refused, then with its second one, and so on, until a run makes so few that none is refused, at most 500 times. A run
+# of the program must end as the whole one, with status 7, or with a report that shows `memory`; a run of a test must
+# pass, or fail by an error of memory. It prints how many were refused, and fails where a run ends otherwise.
+#
+# It tries the program and the tests that `rt ci` has built. A small library that is loaded before the C library
+# refuses the allocations, so a C compiler is wanted: with none on the machine nothing is tried, and it says so.
 set -eu
 top=$(cd "$(dirname "${BASH_SOURCE[0]}")/.." && pwd)
-first=${1:-1}
-last=${2:-60}
-whole=$(cat "$top/crates/dongurapi/stdout")
-cd "$top/crates/dongurapi"
-for n in $(seq "$first" "$last"); do
-    status=0
-    text=$(rt try --fail-alloc "$n" -- replay < "$top/examples/one-get.script" 2> /dev/null) || status=$?
-    case "$status $text" in
-        "7 out of memory" | "0 $whole") ;;
-        "0 0.0 memory "* | "0 "*"end memory") ;;
-        *)
-            echo "allocation $n refused: status $status, $text"
-            exit 1
-            ;;
-    esac
-    echo "allocation $n refused: status $status, $(printf '%s' "$text" | head -n 1 | cut -c1-40)"
-done
+if ! command -v cc > /dev/null; then
+    echo "no C compiler: no allocation was refused"
+    exit 0
+fi
+work=$(mktemp -d)
+trap 'rm -rf "$work"' EXIT
+
+# The allocation that REFUSE counts down to is refused, and the file REFUSED shows that it came.
+cat > "$work/refuse.c" <<'C'
+#include <errno.h>
+#include <fcntl.h>
+#include <stddef.h>
+#include <stdlib.h>
+#include <unistd.h>
+
+extern void *__libc_malloc(size_t);
+extern void *__libc_calloc(size_t, size_t);
+extern void *__libc_realloc(void *, size_t);
+extern void *__libc_memalign(size_t, size_t);
+
+static long left = -1;
+
+static int refused(void) {
+    if (left < 0)
+        left = atol(getenv("REFUSE"));
+    if (left == 0 || --left != 0)
+        return 0;
+    close(open(getenv("REFUSED"), O_CREAT | O_WRONLY, 0600));
+    errno = ENOMEM;
+    return 1;
+}
+
+void *malloc(size_t size) { return refused() ? NULL : __libc_malloc(size); }
+void *calloc(size_t count, size_t size) { return refused() ? NULL : __libc_calloc(count, size); }
+void *realloc(void *old, size_t size) { return refused() ? NULL : __libc_realloc(old, size); }
+void *memalign(size_t align, size_t size) { return refused() ? NULL : __libc_memalign(align, size); }
+void *aligned_alloc(size_t align, size_t size) { return memalign(align, size); }
+
+int posix_memalign(void **out, size_t align, size_t size) {
+    void *got = memalign(align, size);
+    if (!got)
+        return ENOMEM;
+    *out = got;
+    return 0;
+}
+C
+cc -O1 -fPIC -shared -o "$work/refuse.so" "$work/refuse.c"
+
+python3 - "$top" "$work" <<'PY'
+import glob, os, re, subprocess, sys
+from concurrent.futures import ThreadPoolExecutor
+top, work = sys.argv[1:]
+MOST = 500
+
+# How a run ends whose nth allocation is refused, and whether there was one.
+def ended(command, given, n, mark):
+    refuses = dict(os.environ, REFUSE=str(n), REFUSED=mark, LD_PRELOAD=f"{work}/refuse.so")
+    with open(given, "rb") as stdin:
+        run = subprocess.run(command, stdin=stdin, capture_output=True, env=refuses, timeout=60)
+    came = os.path.exists(mark)
+    if came:
+        os.remove(mark)
+    return came, run.returncode, (run.stdout + run.stderr).decode(errors="replace")
+
+# How many allocations were refused, and the first end that is none of memory.
+def tried(number, command, given, is_allowed):
+    for n in range(1, MOST + 1):
+        came, status, text = ended(command, given, n, f"{work}/refused-{number}")
+        if not came:
+            return n - 1, None
+        if not is_allowed(status, text):
+            return n, f"allocation {n} refused: status {status}, {text.strip()[-300:]!r}"
+    return MOST, None
+
+def replay_is_allowed(whole):
+    def is_allowed(status, text):
+        return (status, text) in (whole, (7, "out of memory\n")) or status == 0 and shows_memory(text)
+    return is_allowed
+
+# A line of a connection that ended as `memory`, or the last line `end memory`.
+def shows_memory(text):
+    return bool(re.search(r"(?m)^\d+\.\d+ memory |^end memory$", text))
+
+def test_is_allowed(status, text):
+    return status == 0 or bool(re.search(r"(?m)^error: .*(Memory|AllocError)\b", text))
+
+runs = []
+program = f"{top}/crates/dongurapi/out/dongurapi"
+for script in sorted(glob.glob(f"{top}/examples/*.script")) if os.path.exists(program) else []:
+    with open(script, "rb") as stdin:
+        whole = subprocess.run([program, "replay"], stdin=stdin, capture_output=True)
+    allowed = replay_is_allowed((whole.returncode, whole.stdout.decode()))
+    runs.append((os.path.basename(script), [program, "replay"], script, allowed))
+for tests in sorted(glob.glob(f"{top}/crates/*/out/*_tests")):
+    listed = subprocess.run([tests, "--list"], capture_output=True, text=True).stdout
+    for name in re.findall(r"(?m)^(\S+): test$", listed):
+        runs.append((f"{os.path.basename(tests)} {name}", [tests, name], "/dev/null", test_is_allowed))
+
+with ThreadPoolExecutor(os.cpu_count()) as pool:
+    ends = list(pool.map(lambda it: tried(it[0], *it[1][1:]), enumerate(runs)))
+for (name, *_), (_, bad) in zip(runs, ends):
+    if bad:
+        print(f"{name}: {bad}")
+failed = sum(bad is not None for _, bad in ends)
+print(f"{sum(count for count, _ in ends)} allocations refused, one at a time, in {len(runs)} runs; {failed} runs ended otherwise than for want of memory")
+sys.exit(failed > 0 or not runs)
+PY
