@@ -1,10 +1,13 @@
-//! Asks a service under a policy of many origins for its answer many times over, and prints how many answers a page
-//! may read. How long it takes shows how long an origin is looked up.
+//! Asks a service under a policy of many origins, methods and headers for its answer many times over, and prints how
+//! many answers a page may read. How long it takes shows how long an answer is made.
 #![tactic(auto)]
 
+mod allowing;
+mod asked;
 mod asking;
 mod failure;
 mod hello;
+mod kind;
 mod size;
 
 use asking::granted;
@@ -17,7 +20,7 @@ use std::random::RandomSource;
 use std::rt::Env;
 use std::sync::Wait;
 
-const USAGE: &str = "usage: cors_bench ORIGINS REQUESTS";
+const USAGE: &str = "usage: cors_bench simple|preflight COUNT REQUESTS";
 
 // Prints a line. The status is the one given, or that of a write that failed.
 fn print<R: Print>(rt: &R, text: &str, status: u8) -> u8 {

@@ -1,6 +1,7 @@
 //! The words of the command line.
 ghost use Rattle.std.specs.Prelude.{◌≤◌, IfSome};
 
+use crate::kind::Kind;
 use std::alloc::{AllocError, AllocGlobal};
 use std::env;
 use std::io::ErrorKind;
@@ -9,22 +10,29 @@ use std::rt::Env;
 /// How much is measured.
 #[derive(Clone, Copy)]
 pub struct Size {
-    /// How many origins the policy allows.
-    pub origins: u64,
+    /// What each request is.
+    pub kind: Kind,
+    /// How many origins, methods and headers the policy allows, of each as many.
+    pub count: u64,
     /// How many requests are asked.
     pub requests: u64,
 }
 
 impl Size {
-    /// The two words as numbers, of which the first is not 0. None where they are no such words.
+    /// A kind and two numbers, of which the first is not 0. None where the words are no such words.
     pub fn of_words(words: &[String]) -> Option<Size>
-        ensures { IfSome result (λ size. 1 ≤ size.origins) }
+        ensures { IfSome result (λ size. 1 ≤ size.count) }
     {
-        let [origins, requests] = words else {
+        let [kind, count, requests] = words else {
             return None;
         };
-        match (origins.parse::<u64>(), requests.parse::<u64>()) {
-            (Ok(origins), Ok(requests)) if origins > 0 => Some(Size { origins, requests }),
+        let kind = Kind::of_word(kind)?;
+        match (count.parse::<u64>(), requests.parse::<u64>()) {
+            (Ok(count), Ok(requests)) if count > 0 => Some(Size {
+                kind,
+                count,
+                requests,
+            }),
             _ => None,
         }
     }
