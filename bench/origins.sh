@@ -1,8 +1,8 @@
 #!/usr/bin/env bash
 # An origin is looked up in a search, and not in a scan of the set: asks a service under a policy of 3, of 1,000 and of
 # 10,000 origins (and as many methods and headers) for its answer to 20,000 requests, and prints the nanoseconds a
-# request, without the time that making the policy takes, and the ratios. It fails where a request under 10,000 origins takes above 2.5 times as long as under
-# 1,000.
+# request, without the time that making the policy takes, and the ratios. It fails where a request under 10,000 origins
+# takes above 2.5 times as long as under 1,000.
 set -eu
 top=$(cd "$(dirname "${BASH_SOURCE[0]}")/.." && pwd)
 requests=20000
