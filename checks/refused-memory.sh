@@ -2,7 +2,7 @@
 # Every refused allocation ends as want of memory. Replays each example and runs each test with its first allocation
 # refused, then with its second one, and so on, until a run makes so few that none is refused, at most 500 times. A run
 # of the program must end as the whole one, with status 7, or with a report that shows `memory`; a run of a test must
-# pass, or fail by an error of memory. It prints how many were refused, and fails where a run ends otherwise.
+# pass, or end for want of memory. It prints how many were refused, and fails where a run ends otherwise.
 #
 # It tries the program and the tests that `rt ci` has built. A small library that is loaded before the C library
 # refuses the allocations, so a C compiler is wanted: with none on the machine nothing is tried, and it says so.
@@ -91,8 +91,13 @@ def replay_is_allowed(whole):
 def shows_memory(text):
     return bool(re.search(r"(?m)^\d+\.\d+ memory |^end memory$", text))
 
+# A test ends by an error of memory, or stops where it finds one, or what it has made of one: the outcome `Memory`, the
+# texts `memory` or `error`, or 0 in place of a status.
+TEXTS = "|".join(re.escape(str([*text])) for text in (b"memory", b"error"))
+OF_MEMORY = re.compile(rf"(?m)^error: .*(?:Memory|Alloc)|: Memory$|^ *left: (?:Some\(Memory\)|0|{TEXTS})$")
+
 def test_is_allowed(status, text):
-    return status == 0 or bool(re.search(r"(?m)^error: .*(Memory|AllocError)\b", text))
+    return status == 0 or bool(OF_MEMORY.search(text))
 
 runs = []
 program = f"{top}/crates/dongurapi/out/dongurapi"
