@@ -4,8 +4,9 @@
 # of the program must end as the whole one, with status 7, or with a report that shows `memory`; a run of a test must
 # pass, or end for want of memory. It prints how many were refused, and fails where a run ends otherwise.
 #
-# It tries the program and the tests that `rt ci` has built. A small library that is loaded before the C library
-# refuses the allocations, so a C compiler is wanted: with none on the machine nothing is tried, and it says so.
+# It tries the program and the tests that `rt ci` has built, but those of `server_program`, which compare whole reports.
+# A small library that is loaded before the C library refuses the allocations, so a C compiler is wanted: with none on
+# the machine nothing is tried, and it says so.
 set -eu
 top=$(cd "$(dirname "${BASH_SOURCE[0]}")/.." && pwd)
 if ! command -v cc > /dev/null; then
@@ -106,7 +107,7 @@ for script in sorted(glob.glob(f"{top}/examples/*.script")) if os.path.exists(pr
         whole = subprocess.run([program, "replay"], stdin=stdin, capture_output=True)
     allowed = replay_is_allowed((whole.returncode, whole.stdout.decode()))
     runs.append((os.path.basename(script), [program, "replay"], script, allowed))
-for tests in sorted(glob.glob(f"{top}/crates/*/out/*_tests")):
+for tests in sorted({*glob.glob(f"{top}/crates/*/out/*_tests")} - {f"{top}/crates/server_program/out/server_program_tests"}):
     listed = subprocess.run([tests, "--list"], capture_output=True, text=True).stdout
     for name in re.findall(r"(?m)^(\S+): test$", listed):
         runs.append((f"{os.path.basename(tests)} {name}", [tests, name], "/dev/null", test_is_allowed))
