@@ -1,4 +1,4 @@
-// The bookkeeping of an accept loop.
+//! The bookkeeping of an accept loop.
 ghost use Rattle.std.specs.Prelude.{◌≡◌, ◌+◌, ◌-◌, ◌^◌, ◌<◌, ◌≤◌, ◌↔◌, ℕ, true, false, is_some, length, replicate, All, None, nat_eq, cond, slice_index, slice_set};
 ghost use Rattle.std.specs.List.{list_all, range_with_len, IsDistinct};
 ghost use Rattle.std.specs.FinSet as set;

@@ -1,4 +1,4 @@
-// What a server is told.
+//! What a server is told.
 
 /// What an accept loop is told, as the commands that `actix-server`'s `ServerHandle` sends.
 #[derive(Clone, Copy, Debug, PartialEq, Eq)]

@@ -1,4 +1,4 @@
-// What happens to an accept loop.
+//! What happens to an accept loop.
 use crate::command::Command;
 
 /// What happens to an accept loop, one step at a time. A worker goes by its number, a listener by its token.

@@ -1,4 +1,4 @@
-// A server of two workers and two listeners that knows each connection by itself.
+//! A server of two workers and two listeners that knows each connection by itself.
 ghost use Rattle.std.specs.Prelude.{◌≡◌, ◌+◌, ◌-◌, ◌^◌, ◌<◌, min, Some, nat_lt, ◌&&◌, ◌==◌, not, true, cond, length, count_by, position, IfSome, is_some, is_none, slice_get, slice_index, slice_index_or, slice_set, None};
 ghost use Rattle.std.specs.List.{list_any};
 ghost use Rattle.std.specs.FinSet as set;

@@ -1,4 +1,4 @@
-// The turns of the workers.
+//! The turns of the workers.
 ghost use Rattle.std.specs.Prelude.{◌≡◌, ◌<◌, ◌≤◌, ◌++◌, ◌==◌, ◌∷◌, [], cond, find, drop, true, false, is_some, length, Option, None};
 ghost use Rattle.std.specs.List.{position, range_with_len};
 ghost use Rattle.std.specs.FinSet as set;

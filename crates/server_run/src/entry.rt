@@ -3,12 +3,15 @@ use crate::Outcome;
 /// A connection that the server is done with, with its link.
 #[derive(Debug, Drop)]
 pub struct Entry<L> {
-    /// Its number among all connections, from 0 in the order in which they were accepted.
+    /// Its number among all connections that one call of `serve` hands on. They have the numbers below their count, each
+    /// once, in any order.
     pub serial: u64,
     /// The place of its listener in the list of listeners.
     pub token: usize,
     /// Its number among the connections of that listener, from 0.
     pub place: u64,
+    /// The link as its service ended it, or as the service's future handed it back for want of memory.
     pub link: L,
+    /// How its service ended it, or `Memory` where the service's future handed it back.
     pub outcome: Outcome,
 }

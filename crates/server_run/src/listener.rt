@@ -19,8 +19,9 @@ pub enum Accepted<L> {
     Ended,
 }
 
-/// Where connections come from.
+/// Where connections come from. A listener gives fewer than 2^48 links in its life.
 pub trait Listener: Drop {
+    /// The link of each connection that it gives.
     type Link: Link;
 
     // The links still to come, in order, where the listener tells them.

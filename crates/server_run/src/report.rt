@@ -21,7 +21,9 @@ pub enum ListenerState {
 /// How a run of the server ended, and what became of its listeners, by token.
 #[derive(Debug, Drop)]
 pub struct Report {
+    /// Why nothing more was accepted.
     pub end: End,
+    /// One state for each listener, at the place that is its token.
     pub listeners: Vec<ListenerState>,
 }
 

@@ -8,6 +8,8 @@ use std::alloc::{AllocError, Global};
 
 /// Makes, for a listener's token, the factory of the services of its connections (`actix-server`'s `ServerServiceFactory`).
 pub trait ServerServiceFactory<L: Link>: Drop {
+    /// The factory of a token's services. A service ends each connection with its link, and the future of the connection
+    /// can hand the link back before that.
     type Factory: ServiceFactory<
         L,
         Response = Ended<L>,
@@ -32,6 +34,7 @@ pub trait ServerServiceFactory<L: Link>: Drop {
     // Holds wherever a service of the token is made.
     ghost may_make: { Self → ℕ → Type 0 };
 
+    /// The factory of the token's services. It is refused only for want of memory. The factory may still refuse a service.
     fn create(&self, alloc: Global, token: usize) -> Result<Self::Factory, AllocError>
         ensures { IfOk result (Creates Self.Factory.ServiceFactory Self.Factory.Service.Future.may_stand
             (may_serve self.now token) (may_leave self.now token) (may_ready self.now token)

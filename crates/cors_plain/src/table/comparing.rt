@@ -1,4 +1,5 @@
-//! The middleware's answers beside those of the plain program.
+//! The middleware's answers beside those of the plain program. `checks/cors-table.py` computes the expected numbers from
+//! the table alone.
 
 use super::inner::{Giving, REPLIES, Reply};
 use super::policies::POLICIES;
