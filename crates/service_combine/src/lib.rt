@@ -1,0 +1,18 @@
+//! The combinators of services, of their factories and of transforms (after `actix-service`).
+#![tactic(auto)]
+
+mod and_then;
+mod and_then_response;
+mod map;
+mod map_err;
+mod map_err_future;
+mod map_future;
+mod one_stage;
+mod two_stages;
+
+pub use and_then::AndThenService;
+pub use and_then_response::AndThenServiceResponse;
+pub use map::Map;
+pub use map_err::MapErr;
+pub use map_err_future::MapErrFuture;
+pub use map_future::MapFuture;

@@ -1,0 +1,80 @@
+ghost use Rattle.std.specs.Prelude.{◌≡◌, IfOk};
+ghost use Rattle.std.specs.Arc.{arc_value};
+ghost use Rattle.service_core.specs.Meaning.{GivesOnly};
+ghost use Rattle.service_combine.specs.Meaning.{Mapped, OrRefused};
+
+use crate::MapFuture;
+use crate::one_stage::OneStage;
+use futures::Future;
+use futures::task::{Context, Poll};
+use service_core::{NoMemory, Service, Watched};
+use std::alloc::{AllocError, Global};
+use std::marker::PhantomData;
+use std::sync::Arc;
+
+/// Service of `ServiceExt::map`: its closure changes the Ok responses of its service (`actix_service::Map`).
+#[derive(Drop)]
+pub struct Map<A, F, Req, Res> {
+    pub(crate) service: A,
+    pub(crate) f: Arc<F>,
+    pub(crate) types: PhantomData<(Req, Res)>,
+}
+
+impl<A, F, Req, Res> Map<A, F, Req, Res>
+where
+    A: Service<Req> + Drop,
+    F: Fn(A::Response) -> Res + Drop,
+{
+    pub(crate) fn new(alloc: Global, service: A, f: F) -> Result<Map<A, F, Req, Res>, AllocError>
+        ensures { IfOk result (λ m. (m.service ≡ service) × (arc_value m.f ≡ f)) }
+    {
+        let f = Arc::new(alloc, f)?;
+        Ok(Map {
+            service,
+            f,
+            types: PhantomData,
+        })
+    }
+}
+
+impl<A, F, Req, Res> Service<Req> for Map<A, F, Req, Res>
+where
+    Req: Drop,
+    A: Service<Req, Error: NoMemory>,
+    F: Fn(A::Response) -> Res + Drop,
+{
+    type Response = Res;
+
+    type Error = A::Error;
+
+    type Future = MapFuture<A::Future, F>;
+
+    ghost can_call = { λ m. A.can_call m.service × F.IsAlwaysCallable (arc_value m.f) };
+
+    ghost may = { λ m q. OrRefused (Mapped (A.may m.service q) (F.post (arc_value m.f))) A.Error.refusal };
+
+    ghost may_begin = { λ m q f. GivesOnly ⟦<MapFuture<A::Future, F> as Future>⟧ f
+        (OrRefused (Mapped (A.may m.service q) (F.post (arc_value m.f))) A.Error.refusal) };
+
+    ghost may_ready = { λ m. A.may_ready m.service };
+
+    ghost begun_gives = { λ m q f begun. begun };
+
+    fn poll_ready(&self, cx: &mut Context<'_>) -> Poll<Result<(), A::Error>> {
+        self.service.poll_ready(cx)
+    }
+
+    fn call(&self, req: Req) -> MapFuture<A::Future, F> {
+        match Arc::try_clone(&self.f) {
+            Ok(f) => MapFuture {
+                state: OneStage::Waiting {
+                    future: Watched::new(self.service.call(req)),
+                    f,
+                },
+            },
+            Err(_) => MapFuture {
+                state: OneStage::Refused,
+            },
+        }
+    }
+}

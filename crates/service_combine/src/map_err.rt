@@ -1,0 +1,87 @@
+ghost use Rattle.std.specs.Prelude.{◌≡◌, IfOk};
+ghost use Rattle.std.specs.Arc.{arc_value};
+ghost use Rattle.service_core.specs.Meaning.{GivesOnly};
+ghost use Rattle.service_combine.specs.Meaning.{MappedErr, OrRefused};
+ghost use Rattle.service_combine.specs.Readying.{ReadyErrBy};
+
+use crate::MapErrFuture;
+use crate::one_stage::OneStage;
+use futures::Future;
+use futures::task::{Context, Poll};
+use service_core::{NoMemory, Service, Watched};
+use std::alloc::{AllocError, Global};
+use std::marker::PhantomData;
+use std::sync::Arc;
+
+/// Service of `ServiceExt::map_err`: its closure changes the errors of its service's calls and of its readiness
+/// (`actix_service::MapErr`).
+#[derive(Drop)]
+pub struct MapErr<A, Req, F, E> {
+    pub(crate) service: A,
+    pub(crate) f: Arc<F>,
+    pub(crate) types: PhantomData<(Req, E)>,
+}
+
+impl<A, Req, F, E> MapErr<A, Req, F, E>
+where
+    A: Service<Req> + Drop,
+    F: Fn(A::Error) -> E + Drop,
+{
+    pub(crate) fn new(alloc: Global, service: A, f: F) -> Result<MapErr<A, Req, F, E>, AllocError>
+        ensures { IfOk result (λ m. (m.service ≡ service) × (arc_value m.f ≡ f)) }
+    {
+        let f = Arc::new(alloc, f)?;
+        Ok(MapErr {
+            service,
+            f,
+            types: PhantomData,
+        })
+    }
+}
+
+impl<A, Req, F, E> Service<Req> for MapErr<A, Req, F, E>
+where
+    Req: Drop,
+    A: Service<Req>,
+    E: NoMemory,
+    F: Fn(A::Error) -> E + Drop,
+{
+    type Response = A::Response;
+
+    type Error = E;
+
+    type Future = MapErrFuture<A::Future, F>;
+
+    ghost can_call = { λ m. A.can_call m.service × F.IsAlwaysCallable (arc_value m.f) };
+
+    ghost may = { λ m q. OrRefused (MappedErr (A.may m.service q) (F.post (arc_value m.f))) E.refusal };
+
+    ghost may_begin = { λ m q f. GivesOnly ⟦<MapErrFuture<A::Future, F> as Future>⟧ f
+        (OrRefused (MappedErr (A.may m.service q) (F.post (arc_value m.f))) E.refusal) };
+
+    ghost may_ready = { λ m. ReadyErrBy (F.post (arc_value m.f)) (A.may_ready m.service) };
+
+    ghost begun_gives = { λ m q f begun. begun };
+
+    fn poll_ready(&self, cx: &mut Context<'_>) -> Poll<Result<(), E>> {
+        match self.service.poll_ready(cx) {
+            Poll::Pending => Poll::Pending,
+            Poll::Ready(Ok(())) => Poll::Ready(Ok(())),
+            Poll::Ready(Err(e)) => Poll::Ready(Err((self.f)(e))),
+        }
+    }
+
+    fn call(&self, req: Req) -> MapErrFuture<A::Future, F> {
+        match Arc::try_clone(&self.f) {
+            Ok(f) => MapErrFuture {
+                state: OneStage::Waiting {
+                    future: Watched::new(self.service.call(req)),
+                    f,
+                },
+            },
+            Err(_) => MapErrFuture {
+                state: OneStage::Refused,
+            },
+        }
+    }
+}

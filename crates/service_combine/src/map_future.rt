@@ -1,0 +1,65 @@
+ghost use Rattle.std.specs.Prelude.{◌≡◌, ⊤, Err};
+ghost use Rattle.std.specs.Arc.{arc_value};
+ghost use Rattle.futures.specs.Poll.{OnPending};
+ghost use Rattle.service_core.specs.Polls.{Polls};
+ghost use Rattle.service_combine.specs.Meaning.{Mapped};
+ghost use Rattle.service_combine.specs.Waits.{OneWaited};
+ghost use Rattle.service_combine.specs.declared.one_stage.OneStage.TheVariants.{Waiting, Refused, Done};
+
+use crate::one_stage::OneStage;
+use futures::Future;
+use futures::task::{Context, Poll};
+use service_core::NoMemory;
+
+/// Future of a call of `Map`.
+#[derive(Drop)]
+pub struct MapFuture<Fut, F> {
+    pub(crate) state: OneStage<Fut, F>,
+}
+
+impl<Fut, F, Mid, Res, E> Future for MapFuture<Fut, F>
+where
+    Fut: Future<Output = Result<Mid, E>>,
+    F: Fn(Mid) -> Res + Drop,
+    E: NoMemory,
+{
+    type Output = Result<Res, E>;
+
+    ghost can_poll = { λ m. elim m.state [
+      | Waiting w f ↦ Fut.can_poll w.future × F.IsAlwaysCallable (arc_value f)
+      | Refused ↦ ⊤
+      | Done ↦ ⊥
+    ] };
+
+    ghost gives = { λ m r. elim m.state [
+      | Waiting w f ↦ Mapped (Fut.gives w.future) (F.post (arc_value f)) r
+      | Refused ↦ r ≡ Err E.refusal
+      | Done ↦ ⊥
+    ] };
+
+    fn poll(&mut self, cx: &mut Context<'_>) -> Poll<Result<Res, E>>
+        requires { ⟦<MapFuture<Fut, F> as Future>⟧.can_poll self.old }
+        ensures polls { Polls ⟦<MapFuture<Fut, F> as Future>⟧ self.old self.new cx.old cx.new result }
+        ensures waited { OnPending result (OneWaited self.old.state self.new.state) }
+    {
+        match &mut self.state {
+            OneStage::Waiting { future, f } => match future.poll(cx) {
+                Poll::Pending => Poll::Pending,
+                Poll::Ready(Err(e)) => {
+                    self.state = OneStage::Done;
+                    Poll::Ready(Err(e))
+                }
+                Poll::Ready(Ok(value)) => {
+                    let changed = f(value);
+                    self.state = OneStage::Done;
+                    Poll::Ready(Ok(changed))
+                }
+            },
+            OneStage::Refused => {
+                self.state = OneStage::Done;
+                Poll::Ready(Err(E::no_memory()))
+            }
+            OneStage::Done => unreachable!(),
+        }
+    }
+}
