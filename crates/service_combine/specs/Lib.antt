@@ -1,3 +1,4 @@
 pub mod Meaning
 pub mod Readying
 pub mod Waits
+pub mod Applying

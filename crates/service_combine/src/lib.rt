@@ -3,16 +3,24 @@
 
 mod and_then;
 mod and_then_response;
+mod apply_wrap;
 mod map;
 mod map_err;
 mod map_err_future;
 mod map_future;
 mod one_stage;
+mod service_ext;
+mod then;
+mod then_response;
 mod two_stages;
 
 pub use and_then::AndThenService;
 pub use and_then_response::AndThenServiceResponse;
+pub use apply_wrap::{Apply, apply_fn};
 pub use map::Map;
 pub use map_err::MapErr;
 pub use map_err_future::MapErrFuture;
 pub use map_future::MapFuture;
+pub use service_ext::ServiceExt;
+pub use then::ThenService;
+pub use then_response::ThenServiceResponse;

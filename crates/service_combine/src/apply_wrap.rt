@@ -1,0 +1,76 @@
+ghost use Rattle.std.specs.Prelude.{◌≡◌, IfOk};
+ghost use Rattle.std.specs.Arc.{arc_value};
+ghost use Rattle.service_core.specs.Closures.{GivenBy};
+ghost use Rattle.service_combine.specs.Applying.{AllPollable, Answers};
+
+use futures::Future;
+use futures::task::{Context, Poll};
+use service_core::{IntoService, Service};
+use std::alloc::{AllocError, Global};
+use std::marker::PhantomData;
+use std::sync::Arc;
+
+/// A service that answers what the future of `wrap_fn(req, &service)` gives (`actix_service::apply_fn`).
+///
+/// `AllocError` comes for want of memory alone.
+pub fn apply_fn<I, S, F, Fut, Req, In, Res, Err>(
+    alloc: Global,
+    service: I,
+    wrap_fn: F,
+) -> Result<Apply<S, F, Req, In, Res, Err>, AllocError>
+where
+    I: IntoService<S, In>,
+    S: Service<In, Error = Err> + Drop,
+    F: Fn(Req, &S) -> Fut + Drop,
+    Fut: Future<Output = Result<Res, Err>>,
+    ensures { IfOk result (λ a. I.turns_into service a.service × (arc_value a.wrap_fn ≡ wrap_fn)) }
+{
+    let service = service.into_service();
+    let wrap_fn = Arc::new(alloc, wrap_fn)?;
+    Ok(Apply {
+        service,
+        wrap_fn,
+        types: PhantomData,
+    })
+}
+
+/// Service of `apply_fn`: it answers what the future of its closure gives, to which it hands each request with its
+/// service, and is ready when its service is (`actix_service::Apply`).
+#[derive(Drop)]
+pub struct Apply<S, F, Req, In, Res, Err> {
+    pub(crate) service: S,
+    pub(crate) wrap_fn: Arc<F>,
+    pub(crate) types: PhantomData<(Req, In, Res, Err)>,
+}
+
+impl<S, F, Fut, Req, In, Res, Err> Service<Req> for Apply<S, F, Req, In, Res, Err>
+where
+    S: Service<In, Error = Err>,
+    F: Fn(Req, &S) -> Fut + Drop,
+    Fut: Future<Output = Result<Res, Err>>,
+{
+    type Response = Res;
+
+    type Error = Err;
+
+    type Future = Fut;
+
+    ghost can_call = { λ a. S.can_call a.service × F.IsAlwaysCallable (arc_value a.wrap_fn)
+        × AllPollable Fut.Future (F.post (arc_value a.wrap_fn)) a.service };
+
+    ghost may = { λ a q. GivenBy Fut.Future (Answers (F.post (arc_value a.wrap_fn)) a.service q) };
+
+    ghost may_ready = { λ a. S.may_ready a.service };
+
+    ghost may_begin = { λ a q fut. Answers (F.post (arc_value a.wrap_fn)) a.service q fut × Fut.can_poll fut };
+
+    ghost begun_gives = { λ a q fut begun. (begun.1, λ r given. record { future = fut; answered = begun.0; gives = given }) };
+
+    fn poll_ready(&self, cx: &mut Context<'_>) -> Poll<Result<(), Err>> {
+        self.service.poll_ready(cx)
+    }
+
+    fn call(&self, req: Req) -> Fut {
+        (self.wrap_fn)(req, &self.service)
+    }
+}

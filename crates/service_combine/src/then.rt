@@ -1,0 +1,104 @@
+ghost use Rattle.std.specs.Prelude.{◌≡◌, IfOk};
+ghost use Rattle.std.specs.Arc.{arc_value};
+ghost use Rattle.service_core.specs.Meaning.{GivesOnly};
+ghost use Rattle.service_combine.specs.Meaning.{Follows, OrRefused};
+ghost use Rattle.service_combine.specs.Readying.{BothReady};
+
+use crate::ThenServiceResponse;
+use crate::two_stages::TwoStages;
+use futures::Future;
+use futures::task::{Context, Poll};
+use service_core::{NoMemory, Service, Watched};
+use std::alloc::{AllocError, Global};
+use std::marker::PhantomData;
+use std::sync::Arc;
+
+/// Service of `Pipeline::then`: the whole result of its first part is the request of its second part
+/// (`actix_service::ThenService`).
+///
+/// A clone shares both parts.
+#[derive(Drop)]
+pub struct ThenService<A, B, Req> {
+    pub(crate) parts: Arc<(A, B)>,
+    pub(crate) request: PhantomData<Req>,
+}
+
+impl<A, B, Req> ThenService<A, B, Req>
+where
+    A: Service<Req> + Drop,
+    B: Service<Result<A::Response, A::Error>, Error = A::Error> + Drop,
+{
+    pub(crate) fn new(alloc: Global, first: A, second: B) -> Result<ThenService<A, B, Req>, AllocError>
+        ensures { IfOk result (λ s. arc_value s.parts ≡ (first, second)) }
+    {
+        let parts = Arc::new(alloc, (first, second))?;
+        Ok(ThenService {
+            parts,
+            request: PhantomData,
+        })
+    }
+}
+
+impl<A: Drop, B: Drop, Req> Clone for ThenService<A, B, Req> {
+    ghost is_clone = { λ s copy. arc_value copy.parts ≡ arc_value s.parts };
+
+    fn clone(&self) -> Result<ThenService<A, B, Req>, AllocError> {
+        let parts = Arc::try_clone(&self.parts)?;
+        Ok(ThenService {
+            parts,
+            request: PhantomData,
+        })
+    }
+}
+
+impl<A, B, Req> Service<Req> for ThenService<A, B, Req>
+where
+    Req: Drop,
+    A: Service<Req, Error: NoMemory> + Drop,
+    B: Service<Result<A::Response, A::Error>, Error = A::Error> + Drop,
+{
+    type Response = B::Response;
+
+    type Error = A::Error;
+
+    type Future = ThenServiceResponse<A, B, Req>;
+
+    ghost can_call = { λ s. A.can_call (arc_value s.parts).0 × B.can_call (arc_value s.parts).1 };
+
+    ghost may = { λ s q. OrRefused (Follows (A.may (arc_value s.parts).0 q) (B.may (arc_value s.parts).1))
+        A.Error.refusal };
+
+    ghost may_begin = { λ s q f. GivesOnly ⟦<ThenServiceResponse<A, B, Req> as Future>⟧ f
+        (OrRefused (Follows (A.may (arc_value s.parts).0 q) (B.may (arc_value s.parts).1)) A.Error.refusal) };
+
+    ghost may_ready = { λ s. BothReady (A.may_ready (arc_value s.parts).0) (B.may_ready (arc_value s.parts).1) };
+
+    ghost begun_gives = { λ s q f begun. begun };
+
+    fn poll_ready(&self, cx: &mut Context<'_>) -> Poll<Result<(), A::Error>> {
+        let (first, second) = &*self.parts;
+        match first.poll_ready(cx) {
+            Poll::Ready(Err(e)) => Poll::Ready(Err(e)),
+            Poll::Ready(Ok(())) => second.poll_ready(cx),
+            Poll::Pending => match second.poll_ready(cx) {
+                Poll::Ready(Err(e)) => Poll::Ready(Err(e)),
+                Poll::Ready(Ok(())) => Poll::Pending,
+                Poll::Pending => Poll::Pending,
+            },
+        }
+    }
+
+    fn call(&self, req: Req) -> ThenServiceResponse<A, B, Req> {
+        match Arc::try_clone(&self.parts) {
+            Ok(parts) => ThenServiceResponse {
+                state: TwoStages::First {
+                    future: Watched::new(parts.0.call(req)),
+                    parts,
+                },
+            },
+            Err(_) => ThenServiceResponse {
+                state: TwoStages::Refused,
+            },
+        }
+    }
+}
