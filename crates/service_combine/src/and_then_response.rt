@@ -35,6 +35,13 @@ where
       | Done ↦ ⊥
     ] };
 
+    ghost needs = { λ m s. elim m.state [
+      | First w parts ↦ A.Future.needs w.future s
+      | Second w ↦ B.Future.needs w.future s
+      | Refused ↦ ⊥
+      | Done ↦ ⊥
+    ] };
+
     ghost gives = { λ m r. elim m.state [
       | First w parts ↦ Chained (A.Future.gives w.future) (B.may (arc_value parts).1) r
       | Second w ↦ B.Future.gives w.future r

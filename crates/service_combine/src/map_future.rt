@@ -31,6 +31,12 @@ where
       | Done ↦ ⊥
     ] };
 
+    ghost needs = { λ m s. elim m.state [
+      | Waiting w f ↦ Fut.needs w.future s
+      | Refused ↦ ⊥
+      | Done ↦ ⊥
+    ] };
+
     ghost gives = { λ m r. elim m.state [
       | Waiting w f ↦ Mapped (Fut.gives w.future) (F.post (arc_value f)) r
       | Refused ↦ r ≡ Err E.refusal
