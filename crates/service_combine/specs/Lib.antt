@@ -2,3 +2,4 @@ pub mod Meaning
 pub mod Readying
 pub mod Waits
 pub mod Applying
+pub mod Making

@@ -1,0 +1,90 @@
+ghost use Rattle.std.specs.Prelude.{◌≡◌, ◌⊎◌, IfOk};
+ghost use Rattle.std.specs.Arc.{arc_value};
+ghost use Rattle.service_core.specs.Meaning.{GivesOnly};
+ghost use Rattle.service_combine.specs.Meaning.{Mapped, OrRefused};
+
+use crate::making::Making;
+use crate::{Map, MapFuture, MapServiceFuture};
+use futures::Future;
+use service_core::{NoMemory, Service, ServiceFactory};
+use std::alloc::{AllocError, Global};
+use std::marker::PhantomData;
+use std::sync::Arc;
+
+/// Factory of `ServiceFactoryExt::map`: its closure changes the Ok responses of its factory's services
+/// (`actix_service::MapServiceFactory`).
+#[derive(Drop)]
+pub struct MapServiceFactory<A, F, Req, Res> {
+    pub(crate) factory: A,
+    pub(crate) f: Arc<F>,
+    pub(crate) types: PhantomData<(Req, Res)>,
+}
+
+impl<A, F, Req, Res> MapServiceFactory<A, F, Req, Res>
+where
+    A: ServiceFactory<Req> + Drop,
+    F: Fn(A::Response) -> Res + Drop,
+{
+    pub(crate) fn new(
+        alloc: Global,
+        factory: A,
+        f: F,
+    ) -> Result<MapServiceFactory<A, F, Req, Res>, AllocError>
+        ensures { IfOk result (λ m. (m.factory ≡ factory) × (arc_value m.f ≡ f)) }
+    {
+        let f = Arc::new(alloc, f)?;
+        Ok(MapServiceFactory {
+            factory,
+            f,
+            types: PhantomData,
+        })
+    }
+}
+
+impl<A, F, Req, Res> ServiceFactory<Req> for MapServiceFactory<A, F, Req, Res>
+where
+    Req: Drop,
+    Res: Drop,
+    A: ServiceFactory<Req, Config: Drop, Error: NoMemory, InitError: NoMemory>,
+    F: Fn(A::Response) -> Res + Drop,
+{
+    type Response = Res;
+
+    type Error = A::Error;
+
+    type Config = A::Config;
+
+    type Service = Map<A::Service, F, Req, Res>;
+
+    type InitError = A::InitError;
+
+    type Future = MapServiceFuture<A::Future, F, Req, Res>;
+
+    ghost can_make = { λ m. A.can_make m.factory × F.IsAlwaysCallable (arc_value m.f) };
+
+    ghost may = { λ m c q. OrRefused (Mapped (A.may m.factory c q) (F.post (arc_value m.f))) A.Error.refusal };
+
+    ghost may_ready = { λ m c. A.may_ready m.factory c };
+
+    ghost may_begin = { λ m c q f. GivesOnly ⟦<MapFuture<<<A as ServiceFactory<Req>>::Service as Service<Req>>::Future, F> as Future>⟧ f
+        (OrRefused (Mapped (A.may m.factory c q) (F.post (arc_value m.f))) A.Error.refusal) };
+
+    ghost may_init = { λ m c e. A.may_init m.factory c e ⊎ (e ≡ A.InitError.refusal) };
+
+    ghost may_make = { λ m c. A.may_make m.factory c };
+
+    ghost begun_gives = { λ m c q f begun. begun };
+
+    fn new_service(&self, cfg: A::Config) -> MapServiceFuture<A::Future, F, Req, Res> {
+        match Arc::try_clone(&self.f) {
+            Ok(f) => MapServiceFuture {
+                making: Making::of(self.factory.new_service(cfg), f),
+                types: PhantomData,
+            },
+            Err(_) => MapServiceFuture {
+                making: Making::refused(),
+                types: PhantomData,
+            },
+        }
+    }
+}
