@@ -6,6 +6,8 @@ use Rattle.service_core.specs.Making.{LiesWithin, Makes}
 use Rattle.service_core.specs.declared.service.Service.{Ghosts as ServiceOf}
 use Rattle.service_combine.specs.Meaning.{Follows, OrRefused}
 use Rattle.service_combine.specs.Making.{WithPart}
+use Rattle.service_combine.specs.Readying.{ReadyErrBy}
+use Rattle.futures.specs.declared.task.Poll.TheVariants.{Ready, Pending}
 
 pub Follows-within : {A B : Type 0} (P Q : A → Type 0) (next : A → B → Type 0)
     → Within P Q → (r : B) → Follows P next r → Follows Q next r
@@ -15,6 +17,12 @@ pub OrRefused-within : {A E : Type 0} (P Q : Result A E → Type 0) (refusal : E
     → Within P Q → (r : Result A E) → OrRefused P refusal r → OrRefused Q refusal r
 OrRefused-within P Q refusal within r (inl p) = inl (within r p)
 OrRefused-within P Q refusal within r (inr e) = inr e
+
+pub ReadyErrBy-within : {E G : Type 0} (turned : E → G → Type 0) (P Q : Readiness E → Type 0)
+    → Within P Q → (a : Readiness G) → ReadyErrBy turned P a → ReadyErrBy turned Q a
+ReadyErrBy-within turned P Q within (Ready (Ok u)) p = within _ p
+ReadyErrBy-within turned P Q within (Ready (Err e)) p = (p.0, within _ p.1, p.2)
+ReadyErrBy-within turned P Q within Pending p = within _ p
 
 module _ {S T I : Type 0} (part : T → S) (holds : T → Type 0) where
   pub WithPart-within : (P Q : Result S I → Type 0) → Within P Q → (r : Result T I) → WithPart part holds P r → WithPart part holds Q r

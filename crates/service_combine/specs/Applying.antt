@@ -9,6 +9,7 @@ pub record Answers {S Q F : Type 0} (post : Q → Bor S → F → Type 0) (s : S
   pub is : lent.now ≡ s
   pub answered : post q lent f
 
--- each future that it may answer may be polled
-abbrev pub AllPollable : {S Q F A : Type 0} → FutureOf F A → (Q → Bor S → F → Type 0) → S → Type 0
-AllPollable {S} {Q} {F} g post s = (q : Q) (f : F) → Answers post s q f → g.can_poll f
+-- The closure may be called with anything and the service s, and each future that it may then answer may be polled.
+pub record TakesLent {S Q F A : Type 0} (g : FutureOf F A) (pre : Q → Bor S → Type 0) (post : Q → Bor S → F → Type 0) (s : S) : Type 0 where
+  pub callable : (q : Q) (lent : Bor S) → lent.now ≡ s → pre q lent
+  pub pollable : (q : Q) (f : F) → Answers post s q f → g.can_poll f

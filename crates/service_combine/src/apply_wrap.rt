@@ -1,7 +1,7 @@
 ghost use Rattle.std.specs.Prelude.{◌≡◌, IfOk};
 ghost use Rattle.std.specs.Arc.{arc_value};
 ghost use Rattle.service_core.specs.Closures.{GivenBy};
-ghost use Rattle.service_combine.specs.Applying.{AllPollable, Answers};
+ghost use Rattle.service_combine.specs.Applying.{Answers, TakesLent};
 
 use futures::Future;
 use futures::task::{Context, Poll};
@@ -55,8 +55,8 @@ where
 
     type Future = Fut;
 
-    ghost can_call = { λ a. S.can_call a.service × F.IsAlwaysCallable (arc_value a.wrap_fn)
-        × AllPollable Fut.Future (F.post (arc_value a.wrap_fn)) a.service };
+    ghost can_call = { λ a. S.can_call a.service
+        × TakesLent Fut.Future (F.pre (arc_value a.wrap_fn)) (F.post (arc_value a.wrap_fn)) a.service };
 
     ghost may = { λ a q. GivenBy Fut.Future (Answers (F.post (arc_value a.wrap_fn)) a.service q) };
 

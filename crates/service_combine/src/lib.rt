@@ -3,11 +3,15 @@
 
 mod and_then;
 mod and_then_response;
+mod apply_factory;
+mod apply_service_factory_response;
 mod apply_wrap;
 mod making;
 mod map;
 mod map_err;
 mod map_err_future;
+mod map_err_service_factory;
+mod map_err_service_future;
 mod map_future;
 mod map_service_factory;
 mod map_service_future;
@@ -19,10 +23,14 @@ mod two_stages;
 
 pub use and_then::AndThenService;
 pub use and_then_response::AndThenServiceResponse;
+pub use apply_factory::{ApplyFactory, apply_fn_factory};
+pub use apply_service_factory_response::ApplyServiceFactoryResponse;
 pub use apply_wrap::{Apply, apply_fn};
 pub use map::Map;
 pub use map_err::MapErr;
 pub use map_err_future::MapErrFuture;
+pub use map_err_service_factory::MapErrServiceFactory;
+pub use map_err_service_future::MapErrServiceFuture;
 pub use map_future::MapFuture;
 pub use map_service_factory::MapServiceFactory;
 pub use map_service_future::MapServiceFuture;

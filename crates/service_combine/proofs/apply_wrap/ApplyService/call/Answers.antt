@@ -5,4 +5,4 @@ use Rattle.service_combine.proofs.apply_wrap.ApplyService.call.Goals as goal
 pub returns : goal.returns
 returns g c =
     let answers : Answers _ c.args.self.now.service _ _ = record { lent = _; is = refl; answered = rw c.deref.ensures at c.call.ensures } in
-    (answers, c.requires.2 _ _ answers)
+    (answers, c.requires.1.pollable _ _ answers)

@@ -1,0 +1,91 @@
+ghost use Rattle.std.specs.Prelude.{◌≡◌, ◌⊎◌, IfOk};
+ghost use Rattle.std.specs.Arc.{arc_value};
+ghost use Rattle.service_core.specs.Meaning.{GivesOnly};
+ghost use Rattle.service_combine.specs.Meaning.{MappedErr, OrRefused};
+ghost use Rattle.service_combine.specs.Readying.{ReadyErrBy};
+
+use crate::making::Making;
+use crate::{MapErr, MapErrFuture, MapErrServiceFuture};
+use futures::Future;
+use service_core::{NoMemory, Service, ServiceFactory};
+use std::alloc::{AllocError, Global};
+use std::marker::PhantomData;
+use std::sync::Arc;
+
+/// Factory of `ServiceFactoryExt::map_err`: its closure changes the errors of its factory's services
+/// (`actix_service::MapErrServiceFactory`).
+#[derive(Drop)]
+pub struct MapErrServiceFactory<A, Req, F, E> {
+    pub(crate) factory: A,
+    pub(crate) f: Arc<F>,
+    pub(crate) types: PhantomData<(Req, E)>,
+}
+
+impl<A, Req, F, E> MapErrServiceFactory<A, Req, F, E>
+where
+    A: ServiceFactory<Req> + Drop,
+    F: Fn(A::Error) -> E + Drop,
+{
+    pub(crate) fn new(
+        alloc: Global,
+        factory: A,
+        f: F,
+    ) -> Result<MapErrServiceFactory<A, Req, F, E>, AllocError>
+        ensures { IfOk result (λ m. (m.factory ≡ factory) × (arc_value m.f ≡ f)) }
+    {
+        let f = Arc::new(alloc, f)?;
+        Ok(MapErrServiceFactory {
+            factory,
+            f,
+            types: PhantomData,
+        })
+    }
+}
+
+impl<A, Req, F, E> ServiceFactory<Req> for MapErrServiceFactory<A, Req, F, E>
+where
+    Req: Drop,
+    E: NoMemory,
+    A: ServiceFactory<Req, Config: Drop, InitError: NoMemory>,
+    F: Fn(A::Error) -> E + Drop,
+{
+    type Response = A::Response;
+
+    type Error = E;
+
+    type Config = A::Config;
+
+    type Service = MapErr<A::Service, Req, F, E>;
+
+    type InitError = A::InitError;
+
+    type Future = MapErrServiceFuture<A::Future, F, Req, E>;
+
+    ghost can_make = { λ m. A.can_make m.factory × F.IsAlwaysCallable (arc_value m.f) };
+
+    ghost may = { λ m c q. OrRefused (MappedErr (A.may m.factory c q) (F.post (arc_value m.f))) E.refusal };
+
+    ghost may_ready = { λ m c. ReadyErrBy (F.post (arc_value m.f)) (A.may_ready m.factory c) };
+
+    ghost may_begin = { λ m c q f. GivesOnly ⟦<MapErrFuture<<<A as ServiceFactory<Req>>::Service as Service<Req>>::Future, F> as Future>⟧ f
+        (OrRefused (MappedErr (A.may m.factory c q) (F.post (arc_value m.f))) E.refusal) };
+
+    ghost may_init = { λ m c e. A.may_init m.factory c e ⊎ (e ≡ A.InitError.refusal) };
+
+    ghost may_make = { λ m c. A.may_make m.factory c };
+
+    ghost begun_gives = { λ m c q f begun. begun };
+
+    fn new_service(&self, cfg: A::Config) -> MapErrServiceFuture<A::Future, F, Req, E> {
+        match Arc::try_clone(&self.f) {
+            Ok(f) => MapErrServiceFuture {
+                making: Making::of(self.factory.new_service(cfg), f),
+                types: PhantomData,
+            },
+            Err(_) => MapErrServiceFuture {
+                making: Making::refused(),
+                types: PhantomData,
+            },
+        }
+    }
+}
