@@ -3,3 +3,4 @@ pub mod Readying
 pub mod Waits
 pub mod Applying
 pub mod Making
+pub mod Configuring

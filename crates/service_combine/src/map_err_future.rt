@@ -17,6 +17,12 @@ pub struct MapErrFuture<Fut, F> {
     pub(crate) state: OneStage<Fut, F>,
 }
 
+/// Future of a service of `MapInitErr`.
+pub type MapInitErrFuture<Fut, F> = MapErrFuture<Fut, F>;
+
+/// Future of a wrapped service of `TransformMapInitErr`.
+pub type TransformMapInitErrFuture<Fut, F> = MapErrFuture<Fut, F>;
+
 impl<Fut, F, Res, Mid, E> Future for MapErrFuture<Fut, F>
 where
     Fut: Future<Output = Result<Res, Mid>>,

@@ -1,0 +1,87 @@
+ghost use Rattle.std.specs.Prelude.{◌≡◌, ◌⊎◌, IfOk};
+ghost use Rattle.std.specs.Arc.{arc_value};
+ghost use Rattle.service_combine.specs.Configuring.{Through};
+
+use crate::one_stage::OneStage;
+use crate::{MapErrFuture, MapInitErrFuture};
+use service_core::{NoMemory, ServiceFactory, Watched};
+use std::alloc::{AllocError, Global};
+use std::marker::PhantomData;
+use std::sync::Arc;
+
+/// Factory of `ServiceFactoryExt::map_init_err`: its services are its factory's, and its closure changes what comes in
+/// place of a service (`actix_service::MapInitErr`).
+#[derive(Drop)]
+pub struct MapInitErr<A, F, Req, E> {
+    pub(crate) factory: A,
+    pub(crate) f: Arc<F>,
+    pub(crate) types: PhantomData<(Req, E)>,
+}
+
+impl<A, F, Req, E> MapInitErr<A, F, Req, E>
+where
+    A: ServiceFactory<Req> + Drop,
+    F: Fn(A::InitError) -> E + Drop,
+{
+    pub(crate) fn new(
+        alloc: Global,
+        factory: A,
+        f: F,
+    ) -> Result<MapInitErr<A, F, Req, E>, AllocError>
+        ensures { IfOk result (λ m. (m.factory ≡ factory) × (arc_value m.f ≡ f)) }
+    {
+        let f = Arc::new(alloc, f)?;
+        Ok(MapInitErr {
+            factory,
+            f,
+            types: PhantomData,
+        })
+    }
+}
+
+impl<A, F, Req, E> ServiceFactory<Req> for MapInitErr<A, F, Req, E>
+where
+    A: ServiceFactory<Req, Config: Drop>,
+    F: Fn(A::InitError) -> E + Drop,
+    E: NoMemory,
+{
+    type Response = A::Response;
+
+    type Error = A::Error;
+
+    type Config = A::Config;
+
+    type Service = A::Service;
+
+    type InitError = E;
+
+    type Future = MapInitErrFuture<A::Future, F>;
+
+    ghost can_make = { λ m. A.can_make m.factory × F.IsAlwaysCallable (arc_value m.f) };
+
+    ghost may = { λ m. A.may m.factory };
+
+    ghost may_ready = { λ m. A.may_ready m.factory };
+
+    ghost may_begin = { λ m. A.may_begin m.factory };
+
+    ghost may_init = { λ m c e. Through (A.may_init m.factory c) (λ from. F.post (arc_value m.f) from e) ⊎ (e ≡ E.refusal) };
+
+    ghost may_make = { λ m. A.may_make m.factory };
+
+    ghost begun_gives = { λ m. A.begun_gives m.factory };
+
+    fn new_service(&self, cfg: A::Config) -> MapInitErrFuture<A::Future, F> {
+        match Arc::try_clone(&self.f) {
+            Ok(f) => MapErrFuture {
+                state: OneStage::Waiting {
+                    future: Watched::new(self.factory.new_service(cfg)),
+                    f,
+                },
+            },
+            Err(_) => MapErrFuture {
+                state: OneStage::Refused,
+            },
+        }
+    }
+}

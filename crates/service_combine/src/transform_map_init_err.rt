@@ -1,0 +1,82 @@
+ghost use Rattle.std.specs.Prelude.{◌≡◌, ◌⊎◌, IfOk};
+ghost use Rattle.std.specs.Arc.{arc_value};
+ghost use Rattle.service_combine.specs.Configuring.{Through};
+
+use crate::one_stage::OneStage;
+use crate::{MapErrFuture, TransformMapInitErrFuture};
+use service_core::{NoMemory, Transform, Watched};
+use std::alloc::{AllocError, Global};
+use std::marker::PhantomData;
+use std::sync::Arc;
+
+/// Transform of `TransformExt::map_init_err`: it wraps as its transform does, and its closure changes what comes in place
+/// of a wrapped service (`actix_service::TransformMapInitErr`).
+#[derive(Drop)]
+pub struct TransformMapInitErr<T, S, Req, F, E> {
+    pub(crate) transform: T,
+    pub(crate) f: Arc<F>,
+    pub(crate) types: PhantomData<(S, Req, E)>,
+}
+
+impl<T, S, Req, F, E> TransformMapInitErr<T, S, Req, F, E>
+where
+    T: Transform<S, Req> + Drop,
+    F: Fn(T::InitError) -> E + Drop,
+{
+    pub(crate) fn new(
+        alloc: Global,
+        transform: T,
+        f: F,
+    ) -> Result<TransformMapInitErr<T, S, Req, F, E>, AllocError>
+        ensures { IfOk result (λ m. (m.transform ≡ transform) × (arc_value m.f ≡ f)) }
+    {
+        let f = Arc::new(alloc, f)?;
+        Ok(TransformMapInitErr {
+            transform,
+            f,
+            types: PhantomData,
+        })
+    }
+}
+
+impl<T, S, Req, F, E> Transform<S, Req> for TransformMapInitErr<T, S, Req, F, E>
+where
+    S: Drop,
+    T: Transform<S, Req>,
+    F: Fn(T::InitError) -> E + Drop,
+    E: NoMemory,
+{
+    type Response = T::Response;
+
+    type Error = T::Error;
+
+    type Transform = T::Transform;
+
+    type InitError = E;
+
+    type Future = TransformMapInitErrFuture<T::Future, F>;
+
+    ghost can_make = { λ m s. T.can_make m.transform s × F.IsAlwaysCallable (arc_value m.f) };
+
+    ghost may = { λ m. T.may m.transform };
+
+    ghost may_ready = { λ m. T.may_ready m.transform };
+
+    ghost may_init = { λ m e. Through (T.may_init m.transform) (λ from. F.post (arc_value m.f) from e) ⊎ (e ≡ E.refusal) };
+
+    ghost may_make = { λ m. T.may_make m.transform };
+
+    fn new_transform(&self, service: S) -> TransformMapInitErrFuture<T::Future, F> {
+        match Arc::try_clone(&self.f) {
+            Ok(f) => MapErrFuture {
+                state: OneStage::Waiting {
+                    future: Watched::new(self.transform.new_transform(service)),
+                    f,
+                },
+            },
+            Err(_) => MapErrFuture {
+                state: OneStage::Refused,
+            },
+        }
+    }
+}
