@@ -6,6 +6,9 @@ use Rattle.service_core.specs.Making.{LiesWithin, Makes}
 use Rattle.service_core.specs.declared.service.Service.{Ghosts as ServiceOf}
 use Rattle.service_combine.specs.Meaning.{Follows, OrRefused}
 use Rattle.service_combine.specs.Making.{WithPart}
+use Rattle.service_combine.specs.Configuring.{GivesCallable, OfGiven}
+use Rattle.service_core.specs.Closures.{GivenBy}
+use Rattle.futures.specs.declared.future.Future.{Ghosts as FutureOf}
 use Rattle.service_combine.specs.Readying.{ReadyErrBy}
 use Rattle.futures.specs.declared.task.Poll.TheVariants.{Ready, Pending}
 
@@ -48,3 +51,22 @@ pub WithPart-pair : {S B T I : Type 0} (a : T → S) (b : T → B) (holds : B �
     → WithPart a (λ made. holds (b made)) P r
 WithPart-pair a b holds P (Ok made) w = w.0
 WithPart-pair a b holds P (Err e) p = p
+
+module _ {S Q R E F Fut I : Type 0} (s : ServiceOf S Q R E F) (g : FutureOf Fut (Result S I)) (answers : Fut → Type 0)
+    (callable : GivesCallable g s.can_call answers) (f : Fut) (answered : answers f) where
+  -- what a future of `answers` gives is a service that such a future gives
+  pub Makes-given : Within (g.gives f) (Makes s (λ q r. OfGiven g answers (λ made. s.may made q r))
+      (λ a. OfGiven g answers (λ made. s.may_ready made a)) (λ q fut. OfGiven g answers (λ made. s.may_begin made q fut))
+      (OfGiven g answers (λ _. ⊤)) (λ e. GivenBy g answers (Err e)))
+  Makes-given (Ok made) given =
+      let of : (P : S → Type 0) → P made → OfGiven g answers P =
+      (λ P holds. record { future = f; answered = answered; service = made; given = given; holds = holds }) in (
+        of _ tt,
+        record {
+          callable = callable.callable f made answered given;
+          answers = λ q r h. of _ h;
+          readiness = λ a h. of _ h;
+          futures = λ q fut h. of _ h;
+        },
+      )
+  Makes-given (Err e) given = record { future = f; answered = answered; gives = given }

@@ -28,7 +28,11 @@ where
     A: Service<Req> + Drop,
     B: Service<A::Response, Error = A::Error> + Drop,
 {
-    pub(crate) fn new(alloc: Global, first: A, second: B) -> Result<AndThenService<A, B, Req>, AllocError>
+    pub(crate) fn new(
+        alloc: Global,
+        first: A,
+        second: B,
+    ) -> Result<AndThenService<A, B, Req>, AllocError>
         ensures { IfOk result (λ s. arc_value s.parts ≡ (first, second)) }
     {
         let parts = Arc::new(alloc, (first, second))?;

@@ -82,8 +82,14 @@ where
 
     ghost may_make = { λ a c. SF.may_make a.factory c };
 
-    ghost begun_gives = { λ a c q fut begun. (begun.1, λ r given. record { made = begun.0.made; lies = begun.0.lies;
-        holds = record { future = fut; answered = begun.0.holds; gives = given } }) };
+    ghost begun_gives = { λ a c q fut begun. (
+      begun.1,
+      λ r given. record {
+        made = begun.0.made;
+        lies = begun.0.lies;
+        holds = record { future = fut; answered = begun.0.holds; gives = given };
+      },
+    ) };
 
     fn new_service(
         &self,

@@ -18,7 +18,8 @@ pub struct ApplyServiceFactoryResponse<Fut, F, Req, In, Res, Err> {
     pub(crate) types: PhantomData<(Req, In, Res, Err)>,
 }
 
-impl<Fut, F, Req, In, Res, Err, S, I> Future for ApplyServiceFactoryResponse<Fut, F, Req, In, Res, Err>
+impl<Fut, F, Req, In, Res, Err, S, I> Future
+    for ApplyServiceFactoryResponse<Fut, F, Req, In, Res, Err>
 where
     Fut: Future<Output = Result<S, I>>,
     F: Drop,

@@ -3,12 +3,15 @@
 
 mod and_then;
 mod and_then_response;
+mod apply_config;
 mod apply_factory;
 mod apply_service_factory_response;
 mod apply_wrap;
+mod config_map;
+mod fn_config;
+mod fn_no_config;
 mod making;
 mod map;
-mod config_map;
 mod map_err;
 mod map_err_future;
 mod map_err_service_factory;
@@ -27,10 +30,13 @@ mod without_config;
 
 pub use and_then::AndThenService;
 pub use and_then_response::AndThenServiceResponse;
+pub use apply_config::{ApplyConfigService, apply_cfg};
 pub use apply_factory::{ApplyFactory, apply_fn_factory};
 pub use apply_service_factory_response::ApplyServiceFactoryResponse;
 pub use apply_wrap::{Apply, apply_fn};
 pub use config_map::{MapConfig, map_config};
+pub use fn_config::{FnServiceConfig, fn_factory_with_config};
+pub use fn_no_config::{FnServiceNoConfig, fn_factory};
 pub use map::Map;
 pub use map_err::MapErr;
 pub use map_err_future::{MapErrFuture, MapInitErrFuture, TransformMapInitErrFuture};

@@ -7,13 +7,16 @@ pub returns-in-Ok-clause-made : goal.returns-in-Ok-clause-made
 returns-in-Ok-clause-made g c =
     rw c.of.ensures
     (λ r given. Makes-part _ _ _ _ _ _ _ _ _ _ _ (λ made. made.service) (λ made. arc_value made.f ≡ arc_value c.in-Ok.f)
-      _ c.new_service.ensures.made
-      (λ made same lies. record {
-        callable = (lies.callable, rw (same ∙ c.in-Ok.ensures) c.requires.1);
-        answers = λ q r given. OrRefused-within _ _ _ (Follows-within _ _ _ (lies.answers q)) r (rw (same ∙ c.in-Ok.ensures) at given);
-        readiness = λ a ready. ReadyErrBy-within _ _ _ lies.readiness a (rw (same ∙ c.in-Ok.ensures) at ready);
-        futures = λ q f begun. (begun.0, λ r given.
-          OrRefused-within _ _ _ (Follows-within _ _ _ (lies.answers q)) r (rw (same ∙ c.in-Ok.ensures) at (begun.1 r given)));
-      })
-      (λ e init. inl init) r (WithPart-pair (λ made. made.service) (λ made. made.f) (λ f. arc_value f ≡ arc_value c.in-Ok.f)
-        (g.A.Future.Future.gives c.new_service.result) r given))
+    _ c.new_service.ensures.made
+    (λ made same lies. record {
+      callable = (lies.callable, rw (same ∙ c.in-Ok.ensures) c.requires.1);
+      answers = λ q r given. OrRefused-within _ _ _ (Follows-within _ _ _ (lies.answers q)) r (rw (same ∙ c.in-Ok.ensures) at given);
+      readiness = λ a ready. ReadyErrBy-within _ _ _ lies.readiness a (rw (same ∙ c.in-Ok.ensures) at ready);
+      futures = λ q f begun. (
+        begun.0,
+        λ r given.
+            OrRefused-within _ _ _ (Follows-within _ _ _ (lies.answers q)) r (rw (same ∙ c.in-Ok.ensures) at (begun.1 r given)),
+      );
+    })
+    (λ e init. inl init) r (WithPart-pair (λ made. made.service) (λ made. made.f) (λ f. arc_value f ≡ arc_value c.in-Ok.f)
+    (g.A.Future.Future.gives c.new_service.result) r given))

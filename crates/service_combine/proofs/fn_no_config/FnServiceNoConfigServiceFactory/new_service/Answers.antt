@@ -1,0 +1,8 @@
+use Rattle.service_combine.proofs.MeaningLemmas.{Makes-given}
+use Rattle.service_combine.proofs.fn_no_config.FnServiceNoConfigServiceFactory.new_service.Goals as goal
+
+pub returns-clause-pollable : goal.returns-clause-pollable
+returns-clause-pollable g c = c.requires.1.pollable _ (rw c.deref.ensures at c.call.ensures)
+
+pub returns-clause-made : goal.returns-clause-made
+returns-clause-made g c = Makes-given _ _ _ c.requires.1 _ (rw c.deref.ensures at c.call.ensures)

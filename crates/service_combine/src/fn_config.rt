@@ -1,0 +1,99 @@
+ghost use Rattle.std.specs.Prelude.{◌≡◌, ⊤, Err as Fails, IfOk};
+ghost use Rattle.std.specs.Arc.{arc_value};
+ghost use Rattle.service_core.specs.Closures.{GivenBy};
+ghost use Rattle.service_combine.specs.Configuring.{GivesCallable, OfGiven};
+
+use futures::Future;
+use service_core::{Service, ServiceFactory};
+use std::alloc::{AllocError, Global};
+use std::marker::PhantomData;
+use std::sync::Arc;
+
+/// A factory of the services that the future of `f(cfg)` gives (`actix_service::fn_factory_with_config`).
+///
+/// `AllocError` comes for want of memory alone.
+pub fn fn_factory_with_config<F, Fut, Cfg, Srv, Req, Err>(
+    alloc: Global,
+    f: F,
+) -> Result<FnServiceConfig<F, Fut, Cfg, Srv, Req, Err>, AllocError>
+where
+    F: Fn(Cfg) -> Fut + Drop,
+    Fut: Future<Output = Result<Srv, Err>>,
+    Srv: Service<Req>,
+    ensures { IfOk result (λ s. arc_value s.f ≡ f) }
+{
+    let f = Arc::new(alloc, f)?;
+    Ok(FnServiceConfig {
+        f,
+        types: PhantomData,
+    })
+}
+
+/// Factory of `fn_factory_with_config` (`actix_service::FnServiceConfig`).
+///
+/// A clone shares the closure.
+#[derive(Drop)]
+pub struct FnServiceConfig<F, Fut, Cfg, Srv, Req, Err> {
+    pub(crate) f: Arc<F>,
+    pub(crate) types: PhantomData<(Fut, Cfg, Srv, Req, Err)>,
+}
+
+impl<F: Drop, Fut, Cfg, Srv, Req, Err> Clone for FnServiceConfig<F, Fut, Cfg, Srv, Req, Err> {
+    ghost is_clone = { λ s copy. arc_value copy.f ≡ arc_value s.f };
+
+    fn clone(&self) -> Result<FnServiceConfig<F, Fut, Cfg, Srv, Req, Err>, AllocError> {
+        let f = Arc::try_clone(&self.f)?;
+        Ok(FnServiceConfig {
+            f,
+            types: PhantomData,
+        })
+    }
+}
+
+impl<F, Fut, Cfg, Srv, Req, Err> ServiceFactory<Req> for FnServiceConfig<F, Fut, Cfg, Srv, Req, Err>
+where
+    F: Fn(Cfg) -> Fut + Drop,
+    Fut: Future<Output = Result<Srv, Err>>,
+    Srv: Service<Req>,
+{
+    type Response = Srv::Response;
+
+    type Error = Srv::Error;
+
+    type Config = Cfg;
+
+    type Service = Srv;
+
+    type InitError = Err;
+
+    type Future = Fut;
+
+    ghost can_make = { λ s. F.IsAlwaysCallable (arc_value s.f)
+        × ((c : Cfg) → GivesCallable Fut.Future Srv.can_call (F.post (arc_value s.f) c)) };
+
+    ghost may = { λ s c q r. OfGiven Fut.Future (F.post (arc_value s.f) c) (λ made. Srv.may made q r) };
+
+    ghost may_ready = { λ s c a. OfGiven Fut.Future (F.post (arc_value s.f) c) (λ made. Srv.may_ready made a) };
+
+    ghost may_begin = { λ s c q f. OfGiven Fut.Future (F.post (arc_value s.f) c) (λ made. Srv.may_begin made q f) };
+
+    ghost may_init = { λ s c e. GivenBy Fut.Future (F.post (arc_value s.f) c) (Fails e) };
+
+    ghost may_make = { λ s c. OfGiven Fut.Future (F.post (arc_value s.f) c) (λ _. ⊤) };
+
+    ghost begun_gives = { λ s c q f begun.
+        let gives = Srv.begun_gives begun.service q f begun.holds in (
+          gives.0,
+          λ r given. record {
+            future = begun.future;
+            answered = begun.answered;
+            service = begun.service;
+            given = begun.given;
+            holds = gives.1 r given;
+          },
+        ) };
+
+    fn new_service(&self, cfg: Cfg) -> Fut {
+        (self.f)(cfg)
+    }
+}
