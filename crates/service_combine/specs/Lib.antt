@@ -4,3 +4,4 @@ pub mod Waits
 pub mod Applying
 pub mod Making
 pub mod Configuring
+pub mod Pairing

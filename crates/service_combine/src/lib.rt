@@ -2,14 +2,18 @@
 #![tactic(auto)]
 
 mod and_then;
+mod and_then_factory;
+mod and_then_factory_response;
 mod and_then_response;
 mod apply_config;
 mod apply_factory;
 mod apply_service_factory_response;
 mod apply_wrap;
+mod both;
 mod config_map;
 mod fn_config;
 mod fn_no_config;
+mod half;
 mod making;
 mod map;
 mod map_err;
@@ -23,12 +27,16 @@ mod map_service_future;
 mod one_stage;
 mod service_ext;
 mod then;
+mod then_factory;
+mod then_factory_response;
 mod then_response;
 mod transform_map_init_err;
 mod two_stages;
 mod without_config;
 
 pub use and_then::AndThenService;
+pub use and_then_factory::AndThenServiceFactory;
+pub use and_then_factory_response::AndThenServiceFactoryResponse;
 pub use and_then_response::AndThenServiceResponse;
 pub use apply_config::{ApplyConfigService, apply_cfg};
 pub use apply_factory::{ApplyFactory, apply_fn_factory};
@@ -48,6 +56,8 @@ pub use map_service_factory::MapServiceFactory;
 pub use map_service_future::MapServiceFuture;
 pub use service_ext::ServiceExt;
 pub use then::ThenService;
+pub use then_factory::ThenServiceFactory;
+pub use then_factory_response::ThenServiceFactoryResponse;
 pub use then_response::ThenServiceResponse;
 pub use transform_map_init_err::TransformMapInitErr;
 pub use without_config::{UnitConfig, unit_config};

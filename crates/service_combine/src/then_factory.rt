@@ -1,0 +1,132 @@
+ghost use Rattle.std.specs.Prelude.{◌≡◌, ◌⊎◌, IfOk};
+ghost use Rattle.std.specs.Arc.{arc_value};
+ghost use Rattle.service_core.specs.Meaning.{GivesOnly};
+ghost use Rattle.service_combine.specs.Configuring.{Through};
+ghost use Rattle.service_combine.specs.Meaning.{Follows, OrRefused};
+ghost use Rattle.service_combine.specs.Readying.{BothReady};
+
+use crate::both::Both;
+use crate::half::Half;
+use crate::{ThenService, ThenServiceFactoryResponse, ThenServiceResponse};
+use futures::Future;
+use service_core::{NoMemory, Service, ServiceFactory};
+use std::alloc::{AllocError, Global};
+use std::marker::PhantomData;
+use std::sync::Arc;
+
+/// Factory of `PipelineFactory::then`: it makes a service of each of its parts, and hands the whole results of the first
+/// to the second (`actix_service::ThenServiceFactory`).
+///
+/// The first part gets a clone of the configuration, the second the configuration. A clone that is refused is want of
+/// memory. A clone of the factory shares both parts.
+#[derive(Drop)]
+pub struct ThenServiceFactory<A, B, Req> {
+    pub(crate) parts: Arc<(A, B)>,
+    pub(crate) alloc: Global,
+    pub(crate) request: PhantomData<Req>,
+}
+
+impl<A, B, Req> ThenServiceFactory<A, B, Req>
+where
+    A: ServiceFactory<Req> + Drop,
+    B: ServiceFactory<
+        Result<A::Response, A::Error>,
+        Config = A::Config,
+        Error = A::Error,
+        InitError = A::InitError,
+    >
+        + Drop,
+{
+    pub(crate) fn new(
+        alloc: Global,
+        first: A,
+        second: B,
+    ) -> Result<ThenServiceFactory<A, B, Req>, AllocError>
+        ensures { IfOk result (λ f. arc_value f.parts ≡ (first, second)) }
+    {
+        let parts = Arc::new(alloc, (first, second))?;
+        Ok(ThenServiceFactory {
+            parts,
+            alloc,
+            request: PhantomData,
+        })
+    }
+}
+
+impl<A: Drop, B: Drop, Req> Clone for ThenServiceFactory<A, B, Req> {
+    ghost is_clone = { λ f copy. arc_value copy.parts ≡ arc_value f.parts };
+
+    fn clone(&self) -> Result<ThenServiceFactory<A, B, Req>, AllocError> {
+        let parts = Arc::try_clone(&self.parts)?;
+        Ok(ThenServiceFactory {
+            parts,
+            alloc: self.alloc,
+            request: PhantomData,
+        })
+    }
+}
+
+impl<A, B, Req> ServiceFactory<Req> for ThenServiceFactory<A, B, Req>
+where
+    Req: Drop,
+    A: ServiceFactory<Req, Config: Clone, Error: NoMemory, InitError: NoMemory, Service: Drop>
+        + Drop,
+    B: ServiceFactory<
+        Result<A::Response, A::Error>,
+        Config = A::Config,
+        Error = A::Error,
+        InitError = A::InitError,
+        Service: Drop,
+    >
+        + Drop,
+{
+    type Response = B::Response;
+
+    type Error = A::Error;
+
+    type Config = A::Config;
+
+    type Service = ThenService<A::Service, B::Service, Req>;
+
+    type InitError = A::InitError;
+
+    type Future = ThenServiceFactoryResponse<A, B, Req>;
+
+    ghost can_make = { λ f. A.can_make (arc_value f.parts).0 × B.can_make (arc_value f.parts).1 };
+
+    ghost may = { λ f c q. OrRefused (Follows
+        (λ r. Through (A.Config.is_clone c) (λ copy. A.may (arc_value f.parts).0 copy q r))
+        (B.may (arc_value f.parts).1 c)) A.Error.refusal };
+
+    ghost may_ready = { λ f c. BothReady
+        (λ a. Through (A.Config.is_clone c) (λ copy. A.may_ready (arc_value f.parts).0 copy a))
+        (B.may_ready (arc_value f.parts).1 c) };
+
+    ghost may_begin = { λ f c q fut. GivesOnly ⟦<ThenServiceResponse<A::Service, B::Service, Req> as Future>⟧ fut
+        (OrRefused (Follows (λ r. Through (A.Config.is_clone c) (λ copy. A.may (arc_value f.parts).0 copy q r))
+        (B.may (arc_value f.parts).1 c)) A.Error.refusal) };
+
+    ghost may_init = { λ f c e. Through (A.Config.is_clone c) (λ copy. A.may_init (arc_value f.parts).0 copy e)
+        ⊎ (B.may_init (arc_value f.parts).1 c e ⊎ (e ≡ A.InitError.refusal)) };
+
+    ghost may_make = { λ f c. Through (A.Config.is_clone c) (A.may_make (arc_value f.parts).0)
+        × B.may_make (arc_value f.parts).1 c };
+
+    ghost begun_gives = { λ f c q fut begun. begun };
+
+    fn new_service(&self, cfg: A::Config) -> ThenServiceFactoryResponse<A, B, Req> {
+        match cfg.clone() {
+            Ok(copy) => ThenServiceFactoryResponse {
+                making: Both::Halves {
+                    first: Half::of(self.parts.0.new_service(copy)),
+                    second: Half::of(self.parts.1.new_service(cfg)),
+                },
+                alloc: self.alloc,
+            },
+            Err(_) => ThenServiceFactoryResponse {
+                making: Both::Refused,
+                alloc: self.alloc,
+            },
+        }
+    }
+}
