@@ -5,3 +5,4 @@ pub mod Applying
 pub mod Making
 pub mod Configuring
 pub mod Pairing
+pub mod Staging
