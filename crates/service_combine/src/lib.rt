@@ -29,6 +29,10 @@ mod map_service_factory;
 mod map_service_future;
 mod one_stage;
 mod service_ext;
+#[cfg(test)]
+mod service_tests;
+#[cfg(test)]
+mod test_services;
 mod then;
 mod then_factory;
 mod then_factory_response;
