@@ -6,6 +6,11 @@ use Rattle.futures.specs.declared.task.Poll.TheVariants.{Ready as PollReady}
 use Rattle.service_core.specs.Holding.{OfKept}
 use Rattle.futures.specs.declared.future.Future.{Ghosts as FutureOf}
 use Rattle.service_core.specs.Meaning.{Readiness, Within}
+use Rattle.std.specs.Prelude.{⊤}
+use Rattle.service_core.specs.Closures.{GivenBy}
+use Rattle.service_core.specs.Making.{LiesWithin, Makes, OfMade}
+use Rattle.service_core.specs.declared.service.Service.{Ghosts as ServiceOf}
+use Rattle.service_combine.specs.Configuring.{GivesCallable, OfGiven, Through}
 use Rattle.service_combine.specs.Staging.{AwaitsReady, ByService, ReadyOr, ThroughService}
 
 module _ {S F T I : Type 0} (P : Result S I → Type 0) (g : FutureOf F (Result T I)) (answers : S → F → Type 0) where
@@ -57,3 +62,39 @@ module _ {S E I : Type 0} (turned : E → I → Type 0) where
         may_come = record { value = one.value; may_come = kept-is P s kept is came one.value one.is; holds = one.holds };
         holds = t.holds;
       })
+
+module _ {S T Q R E F Q' R' E' F' I Fut : Type 0} (inner : ServiceOf S Q R E F) (outer : ServiceOf T Q' R' E' F')
+    (may : Q → Result R E → Type 0) (ready : Readiness E → Type 0) (begin : Q → F → Type 0) (make : Type 0) (init : I → Type 0)
+    (turned : E → I → Type 0) (refusal : I) (g : FutureOf Fut (Result T I)) (answers : S → Fut → Type 0)
+    (P : Result S I → Type 0) where
+  -- what a closure gives for a service that a maker makes and that is ready
+  pub Makes-through : Within P (Makes inner may ready begin make init)
+      → ((s : S) → inner.can_call s → GivesCallable g outer.can_call (answers s))
+      → Within (ThroughService (ReadyOr P inner.may_ready turned) g answers) (Makes outer
+          (λ q r. OfMade inner may ready begin (λ s. OfGiven g (answers s) (λ made. outer.may made q r)))
+          (λ a. OfMade inner may ready begin (λ s. OfGiven g (answers s) (λ made. outer.may_ready made a)))
+          (λ q f. OfMade inner may ready begin (λ s. OfGiven g (answers s) (λ made. outer.may_begin made q f)))
+          (make × OfMade inner may ready begin (λ s. OfGiven g (answers s) (λ _. ⊤)))
+          (λ e. init e ⊎ (Through (λ from. ready (PollReady (Err from))) (λ from. turned from e)
+            ⊎ (OfMade inner may ready begin (λ s. GivenBy g (answers s) (Err e)) ⊎ (e ≡ refusal)))))
+  Makes-through within callable (Ok made) by =
+      let from = within (Ok by.service) by.comes in
+      let of : (P : T → Type 0) → P made → OfMade inner may ready begin (λ s. OfGiven g (answers s) P) =
+        (λ P holds. record {
+          made = by.service;
+          lies = from.1;
+          holds = record { future = by.given.future; answered = by.given.answered; service = made; given = by.given.gives; holds = holds };
+        }) in
+      ((from.0, of _ tt), record {
+        callable = (callable by.service from.1.callable).callable by.given.future made by.given.answered by.given.gives;
+        answers = λ q r h. of _ h;
+        readiness = λ a h. of _ h;
+        futures = λ q f h. of _ h;
+      })
+  Makes-through within callable (Err e) (inl (inl p)) = inl (within (Err e) p)
+  Makes-through within callable (Err e) (inl (inr t)) =
+      let from = within (Ok t.may_come.value) t.may_come.may_come in
+      inr (inl (record { value = t.value; may_come = from.1.readiness _ t.may_come.holds; holds = t.holds }))
+  Makes-through within callable (Err e) (inr by) =
+      let from = within (Ok by.service) by.comes in
+      inr (inr (inl (record { made = by.service; lies = from.1; holds = by.given })))

@@ -1,4 +1,4 @@
-ghost use Rattle.std.specs.Prelude.{Ok};
+ghost use Rattle.std.specs.Prelude.{◌≡◌, Ok};
 ghost use Rattle.futures.specs.Poll.{OnPending};
 ghost use Rattle.futures.specs.declared.task.Poll.TheVariants.{Ready as PollReady};
 ghost use Rattle.service_core.specs.Polls.{Polls};
@@ -17,6 +17,16 @@ pub(crate) enum MadeReady<X, S, Req> {
     Making { future: Watched<X> },
     Readying { ready: Watched<WhenReady<S, Req>> },
     Done,
+}
+
+impl<X, S, Req> MadeReady<X, S, Req> {
+    pub(crate) fn of(future: X) -> MadeReady<X, S, Req>
+        ensures { result ≡ Making (record { future = future; waits = 0 }) }
+    {
+        MadeReady::Making {
+            future: Watched::new(future),
+        }
+    }
 }
 
 impl<X, S, Req, I> Future for MadeReady<X, S, Req>
