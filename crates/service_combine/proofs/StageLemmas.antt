@@ -71,26 +71,28 @@ module _ {S T Q R E F Q' R' E' F' I Fut : Type 0} (inner : ServiceOf S Q R E F) 
   pub Makes-through : Within P (Makes inner may ready begin make init)
       → ((s : S) → inner.can_call s → GivesCallable g outer.can_call (answers s))
       → Within (ThroughService (ReadyOr P inner.may_ready turned) g answers) (Makes outer
-          (λ q r. OfMade inner may ready begin (λ s. OfGiven g (answers s) (λ made. outer.may made q r)))
-          (λ a. OfMade inner may ready begin (λ s. OfGiven g (answers s) (λ made. outer.may_ready made a)))
-          (λ q f. OfMade inner may ready begin (λ s. OfGiven g (answers s) (λ made. outer.may_begin made q f)))
-          (make × OfMade inner may ready begin (λ s. OfGiven g (answers s) (λ _. ⊤)))
-          (λ e. init e ⊎ (Through (λ from. ready (PollReady (Err from))) (λ from. turned from e)
-            ⊎ (OfMade inner may ready begin (λ s. GivenBy g (answers s) (Err e)) ⊎ (e ≡ refusal)))))
+      (λ q r. OfMade inner may ready begin (λ s. OfGiven g (answers s) (λ made. outer.may made q r)))
+      (λ a. OfMade inner may ready begin (λ s. OfGiven g (answers s) (λ made. outer.may_ready made a)))
+      (λ q f. OfMade inner may ready begin (λ s. OfGiven g (answers s) (λ made. outer.may_begin made q f)))
+      (make × OfMade inner may ready begin (λ s. OfGiven g (answers s) (λ _. ⊤)))
+      (λ e. init e ⊎ (Through (λ from. ready (PollReady (Err from))) (λ from. turned from e)
+      ⊎ (OfMade inner may ready begin (λ s. GivenBy g (answers s) (Err e)) ⊎ (e ≡ refusal)))))
   Makes-through within callable (Ok made) by =
       let from = within (Ok by.service) by.comes in
       let of : (P : T → Type 0) → P made → OfMade inner may ready begin (λ s. OfGiven g (answers s) P) =
-        (λ P holds. record {
-          made = by.service;
-          lies = from.1;
-          holds = record { future = by.given.future; answered = by.given.answered; service = made; given = by.given.gives; holds = holds };
-        }) in
-      ((from.0, of _ tt), record {
-        callable = (callable by.service from.1.callable).callable by.given.future made by.given.answered by.given.gives;
-        answers = λ q r h. of _ h;
-        readiness = λ a h. of _ h;
-        futures = λ q f h. of _ h;
-      })
+      (λ P holds. record {
+        made = by.service;
+        lies = from.1;
+        holds = record { future = by.given.future; answered = by.given.answered; service = made; given = by.given.gives; holds = holds };
+      }) in (
+        (from.0, of _ tt),
+        record {
+          callable = (callable by.service from.1.callable).callable by.given.future made by.given.answered by.given.gives;
+          answers = λ q r h. of _ h;
+          readiness = λ a h. of _ h;
+          futures = λ q f h. of _ h;
+        },
+      )
   Makes-through within callable (Err e) (inl (inl p)) = inl (within (Err e) p)
   Makes-through within callable (Err e) (inl (inr t)) =
       let from = within (Ok t.may_come.value) t.may_come.may_come in

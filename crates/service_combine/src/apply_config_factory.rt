@@ -50,8 +50,7 @@ pub struct ApplyConfigServiceFactory<SF, Req, F, Cfg, Fut, S> {
 }
 
 impl<SF: Drop, Req, F: Drop, Cfg, Fut, S> Clone
-    for ApplyConfigServiceFactory<SF, Req, F, Cfg, Fut, S>
-{
+    for ApplyConfigServiceFactory<SF, Req, F, Cfg, Fut, S> {
     ghost is_clone = { λ a copy. arc_value copy.srv ≡ arc_value a.srv };
 
     fn clone(&self) -> Result<ApplyConfigServiceFactory<SF, Req, F, Cfg, Fut, S>, AllocError> {
@@ -113,9 +112,20 @@ where
 
     ghost begun_gives = { λ a c q f begun.
         let given = begun.holds in
-        let gives = S.begun_gives given.service q f given.holds in
-        (gives.0, λ r may. record { made = begun.made; lies = begun.lies; holds = record { future = given.future;
-            answered = given.answered; service = given.service; given = given.given; holds = gives.1 r may } }) };
+        let gives = S.begun_gives given.service q f given.holds in (
+          gives.0,
+          λ r may. record {
+            made = begun.made;
+            lies = begun.lies;
+            holds = record {
+              future = given.future;
+              answered = given.answered;
+              service = given.service;
+              given = given.given;
+              holds = gives.1 r may;
+            };
+          },
+        ) };
 
     fn new_service(&self, cfg: Cfg) -> ApplyConfigServiceFactoryResponse<SF, Req, F, Cfg, Fut, S> {
         match Arc::try_clone(&self.srv) {

@@ -1,0 +1,134 @@
+ghost use Rattle.std.specs.Prelude.{◌≡◌, IfOk};
+ghost use Rattle.std.specs.Arc.{arc_value};
+
+use crate::{AndThenService, Map, MapErr, ThenService};
+use futures::task::{Context, Poll};
+use service_core::{IntoService, Service};
+use std::alloc::{AllocError, Global};
+use std::marker::PhantomData;
+
+/// A service to which others are added one by one (`actix_service::Pipeline`). It is that service.
+#[derive(Drop)]
+pub struct Pipeline<S, Req> {
+    pub(crate) service: S,
+    pub(crate) request: PhantomData<Req>,
+}
+
+impl<S, Req> Pipeline<S, Req>
+where
+    S: Service<Req> + Drop,
+{
+    /// Hands each Ok response to a second service.
+    pub fn and_then<I, S1>(
+        self,
+        alloc: Global,
+        service: I,
+    ) -> Result<Pipeline<AndThenService<S, S1, Req>, Req>, AllocError>
+    where
+        I: IntoService<S1, S::Response>,
+        S1: Service<S::Response, Error = S::Error> + Drop,
+        ensures { IfOk result (λ p. ((arc_value p.service.parts).0 ≡ self.service)
+            × I.turns_into service (arc_value p.service.parts).1) }
+    {
+        let Pipeline {
+            service: first,
+            request: _,
+        } = self;
+        let service = AndThenService::new(alloc, first, service.into_service())?;
+        Ok(Pipeline {
+            service,
+            request: PhantomData,
+        })
+    }
+
+    /// Hands each result, Ok or not, to a second service.
+    pub fn then<F, S1>(
+        self,
+        alloc: Global,
+        service: F,
+    ) -> Result<Pipeline<ThenService<S, S1, Req>, Req>, AllocError>
+    where
+        F: IntoService<S1, Result<S::Response, S::Error>>,
+        S1: Service<Result<S::Response, S::Error>, Error = S::Error> + Drop,
+        ensures { IfOk result (λ p. ((arc_value p.service.parts).0 ≡ self.service)
+            × F.turns_into service (arc_value p.service.parts).1) }
+    {
+        let Pipeline {
+            service: first,
+            request: _,
+        } = self;
+        let service = ThenService::new(alloc, first, service.into_service())?;
+        Ok(Pipeline {
+            service,
+            request: PhantomData,
+        })
+    }
+
+    /// Changes the Ok responses by a closure.
+    pub fn map<F, R>(
+        self,
+        alloc: Global,
+        f: F,
+    ) -> Result<Pipeline<Map<S, F, Req, R>, Req>, AllocError>
+    where
+        F: Fn(S::Response) -> R + Drop,
+        ensures { IfOk result (λ p. (p.service.service ≡ self.service) × (arc_value p.service.f ≡ f)) }
+    {
+        let Pipeline {
+            service: first,
+            request: _,
+        } = self;
+        let service = Map::new(alloc, first, f)?;
+        Ok(Pipeline {
+            service,
+            request: PhantomData,
+        })
+    }
+
+    /// Changes the errors of calls and of readiness by a closure.
+    pub fn map_err<F, E>(
+        self,
+        alloc: Global,
+        f: F,
+    ) -> Result<Pipeline<MapErr<S, Req, F, E>, Req>, AllocError>
+    where
+        F: Fn(S::Error) -> E + Drop,
+        ensures { IfOk result (λ p. (p.service.service ≡ self.service) × (arc_value p.service.f ≡ f)) }
+    {
+        let Pipeline {
+            service: first,
+            request: _,
+        } = self;
+        let service = MapErr::new(alloc, first, f)?;
+        Ok(Pipeline {
+            service,
+            request: PhantomData,
+        })
+    }
+}
+
+impl<S: Service<Req>, Req> Service<Req> for Pipeline<S, Req> {
+    type Response = S::Response;
+
+    type Error = S::Error;
+
+    type Future = S::Future;
+
+    ghost can_call = { λ p. S.can_call p.service };
+
+    ghost may = { λ p. S.may p.service };
+
+    ghost may_ready = { λ p. S.may_ready p.service };
+
+    ghost may_begin = { λ p. S.may_begin p.service };
+
+    ghost begun_gives = { λ p. S.begun_gives p.service };
+
+    fn poll_ready(&self, cx: &mut Context<'_>) -> Poll<Result<(), S::Error>> {
+        self.service.poll_ready(cx)
+    }
+
+    fn call(&self, req: Req) -> S::Future {
+        self.service.call(req)
+    }
+}

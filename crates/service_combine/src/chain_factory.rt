@@ -1,0 +1,174 @@
+ghost use Rattle.std.specs.Prelude.{◌≡◌, IfOk};
+ghost use Rattle.std.specs.Arc.{arc_value};
+
+use crate::{
+    AndThenServiceFactory, MapErrServiceFactory, MapInitErr, MapServiceFactory, ThenServiceFactory,
+};
+use service_core::{IntoServiceFactory, ServiceFactory};
+use std::alloc::{AllocError, Global};
+use std::marker::PhantomData;
+
+/// A factory to which others are added one by one (`actix_service::PipelineFactory`). It is that factory.
+#[derive(Drop)]
+pub struct PipelineFactory<SF, Req> {
+    pub(crate) factory: SF,
+    pub(crate) request: PhantomData<Req>,
+}
+
+impl<SF, Req> PipelineFactory<SF, Req>
+where
+    SF: ServiceFactory<Req> + Drop,
+{
+    /// Hands each Ok response to a service of a second factory. The first factory gets a clone of the configuration.
+    pub fn and_then<I, SF1>(
+        self,
+        alloc: Global,
+        factory: I,
+    ) -> Result<PipelineFactory<AndThenServiceFactory<SF, SF1, Req>, Req>, AllocError>
+    where
+        I: IntoServiceFactory<SF1, SF::Response>,
+        SF1: ServiceFactory<
+            SF::Response,
+            Config = SF::Config,
+            Error = SF::Error,
+            InitError = SF::InitError,
+        >
+            + Drop,
+        ensures { IfOk result (λ p. ((arc_value p.factory.parts).0 ≡ self.factory)
+            × I.turns_into factory (arc_value p.factory.parts).1) }
+    {
+        let PipelineFactory {
+            factory: first,
+            request: _,
+        } = self;
+        let factory = AndThenServiceFactory::new(alloc, first, factory.into_factory())?;
+        Ok(PipelineFactory {
+            factory,
+            request: PhantomData,
+        })
+    }
+
+    /// Hands each result, Ok or not, to a service of a second factory. The first factory gets a clone of the configuration.
+    pub fn then<I, SF1>(
+        self,
+        alloc: Global,
+        factory: I,
+    ) -> Result<PipelineFactory<ThenServiceFactory<SF, SF1, Req>, Req>, AllocError>
+    where
+        I: IntoServiceFactory<SF1, Result<SF::Response, SF::Error>>,
+        SF1: ServiceFactory<
+            Result<SF::Response, SF::Error>,
+            Config = SF::Config,
+            Error = SF::Error,
+            InitError = SF::InitError,
+        >
+            + Drop,
+        ensures { IfOk result (λ p. ((arc_value p.factory.parts).0 ≡ self.factory)
+            × I.turns_into factory (arc_value p.factory.parts).1) }
+    {
+        let PipelineFactory {
+            factory: first,
+            request: _,
+        } = self;
+        let factory = ThenServiceFactory::new(alloc, first, factory.into_factory())?;
+        Ok(PipelineFactory {
+            factory,
+            request: PhantomData,
+        })
+    }
+
+    /// Changes the Ok responses of the services by a closure.
+    pub fn map<F, R>(
+        self,
+        alloc: Global,
+        f: F,
+    ) -> Result<PipelineFactory<MapServiceFactory<SF, F, Req, R>, Req>, AllocError>
+    where
+        F: Fn(SF::Response) -> R + Drop,
+        ensures { IfOk result (λ p. (p.factory.factory ≡ self.factory) × (arc_value p.factory.f ≡ f)) }
+    {
+        let PipelineFactory {
+            factory: first,
+            request: _,
+        } = self;
+        let factory = MapServiceFactory::new(alloc, first, f)?;
+        Ok(PipelineFactory {
+            factory,
+            request: PhantomData,
+        })
+    }
+
+    /// Changes the errors of the services' calls and of their readiness by a closure.
+    pub fn map_err<F, E>(
+        self,
+        alloc: Global,
+        f: F,
+    ) -> Result<PipelineFactory<MapErrServiceFactory<SF, Req, F, E>, Req>, AllocError>
+    where
+        F: Fn(SF::Error) -> E + Drop,
+        ensures { IfOk result (λ p. (p.factory.factory ≡ self.factory) × (arc_value p.factory.f ≡ f)) }
+    {
+        let PipelineFactory {
+            factory: first,
+            request: _,
+        } = self;
+        let factory = MapErrServiceFactory::new(alloc, first, f)?;
+        Ok(PipelineFactory {
+            factory,
+            request: PhantomData,
+        })
+    }
+
+    /// Changes what comes in place of a service by a closure.
+    pub fn map_init_err<F, E>(
+        self,
+        alloc: Global,
+        f: F,
+    ) -> Result<PipelineFactory<MapInitErr<SF, F, Req, E>, Req>, AllocError>
+    where
+        F: Fn(SF::InitError) -> E + Drop,
+        ensures { IfOk result (λ p. (p.factory.factory ≡ self.factory) × (arc_value p.factory.f ≡ f)) }
+    {
+        let PipelineFactory {
+            factory: first,
+            request: _,
+        } = self;
+        let factory = MapInitErr::new(alloc, first, f)?;
+        Ok(PipelineFactory {
+            factory,
+            request: PhantomData,
+        })
+    }
+}
+
+impl<SF: ServiceFactory<Req>, Req> ServiceFactory<Req> for PipelineFactory<SF, Req> {
+    type Response = SF::Response;
+
+    type Error = SF::Error;
+
+    type Config = SF::Config;
+
+    type Service = SF::Service;
+
+    type InitError = SF::InitError;
+
+    type Future = SF::Future;
+
+    ghost can_make = { λ p. SF.can_make p.factory };
+
+    ghost may = { λ p. SF.may p.factory };
+
+    ghost may_ready = { λ p. SF.may_ready p.factory };
+
+    ghost may_begin = { λ p. SF.may_begin p.factory };
+
+    ghost may_init = { λ p. SF.may_init p.factory };
+
+    ghost may_make = { λ p. SF.may_make p.factory };
+
+    ghost begun_gives = { λ p. SF.begun_gives p.factory };
+
+    fn new_service(&self, cfg: SF::Config) -> SF::Future {
+        self.factory.new_service(cfg)
+    }
+}

@@ -1,0 +1,74 @@
+ghost use Rattle.std.specs.Prelude.{◌≡◌, IfOk};
+ghost use Rattle.std.specs.Arc.{arc_value};
+
+use crate::{AndThenServiceFactory, MapErrServiceFactory, MapInitErr, MapServiceFactory};
+use service_core::{IntoServiceFactory, ServiceFactory};
+use std::alloc::{AllocError, Global};
+
+/// The combinators of every factory (`actix_service::ServiceFactoryExt`). `AllocError` comes for want of memory alone.
+pub trait ServiceFactoryExt<Req>: ServiceFactory<Req> {
+    /// Changes the Ok responses of the services by a closure.
+    final fn map<F, R>(
+        self,
+        alloc: Global,
+        f: F,
+    ) -> Result<MapServiceFactory<Self, F, Req, R>, AllocError>
+    where
+        Self: Sized + Drop,
+        F: Fn(Self::Response) -> R + Drop,
+        ensures { IfOk result (λ m. (m.factory ≡ self) × (arc_value m.f ≡ f)) }
+    {
+        MapServiceFactory::new(alloc, self, f)
+    }
+
+    /// Changes the errors of the services' calls and of their readiness by a closure.
+    final fn map_err<F, E>(
+        self,
+        alloc: Global,
+        f: F,
+    ) -> Result<MapErrServiceFactory<Self, Req, F, E>, AllocError>
+    where
+        Self: Sized + Drop,
+        F: Fn(Self::Error) -> E + Drop,
+        ensures { IfOk result (λ m. (m.factory ≡ self) × (arc_value m.f ≡ f)) }
+    {
+        MapErrServiceFactory::new(alloc, self, f)
+    }
+
+    /// Changes what comes in place of a service by a closure.
+    final fn map_init_err<F, E>(
+        self,
+        alloc: Global,
+        f: F,
+    ) -> Result<MapInitErr<Self, F, Req, E>, AllocError>
+    where
+        Self: Sized + Drop,
+        F: Fn(Self::InitError) -> E + Drop,
+        ensures { IfOk result (λ m. (m.factory ≡ self) × (arc_value m.f ≡ f)) }
+    {
+        MapInitErr::new(alloc, self, f)
+    }
+
+    /// Hands each Ok response to a service of a second factory. The first factory gets a clone of the configuration.
+    final fn and_then<I, SF1>(
+        self,
+        alloc: Global,
+        factory: I,
+    ) -> Result<AndThenServiceFactory<Self, SF1, Req>, AllocError>
+    where
+        Self: Sized + Drop,
+        I: IntoServiceFactory<SF1, Self::Response>,
+        SF1: ServiceFactory<
+            Self::Response,
+            Config = Self::Config,
+            Error = Self::Error,
+            InitError = Self::InitError,
+        >
+            + Drop,
+        ensures { IfOk result (λ f. ((arc_value f.parts).0 ≡ self) × I.turns_into factory (arc_value f.parts).1) }
+    {
+        AndThenServiceFactory::new(alloc, self, factory.into_factory())
+    }
+}
+
+impl<SF: ServiceFactory<Req>, Req> ServiceFactoryExt<Req> for SF {}
