@@ -8,10 +8,10 @@ use Rattle.futures.specs.declared.future.Future.{Ghosts as FutureOf}
 use Rattle.service_core.specs.Meaning.{Readiness, Within}
 use Rattle.std.specs.Prelude.{⊤}
 use Rattle.service_core.specs.Closures.{GivenBy}
-use Rattle.service_core.specs.Making.{LiesWithin, Makes, OfMade}
+use Rattle.service_core.specs.Making.{LiesWithin, Makes}
 use Rattle.service_core.specs.declared.service.Service.{Ghosts as ServiceOf}
 use Rattle.service_combine.specs.Configuring.{GivesCallable, OfGiven, Through}
-use Rattle.service_combine.specs.Staging.{AwaitsReady, ByService, ReadyOr, ThroughService}
+use Rattle.service_combine.specs.Staging.{AwaitsReady, ByService, OfReady, ReadyOr, ThroughService}
 
 module _ {S F T I : Type 0} (P : Result S I → Type 0) (g : FutureOf F (Result T I)) (answers : S → F → Type 0) where
   pub from-closure : (s : S) (f : F) → P (Ok s) → answers s f → Within (g.gives f) (ThroughService P g answers)
@@ -42,7 +42,7 @@ module _ {S E I : Type 0} (turned : E → I → Type 0) where
 
   pub ReadyOr-within : (ready : S → Readiness E → Type 0) (P Q : Result S I → Type 0) → Within P Q
       → (r : Result S I) → ReadyOr P ready turned r → ReadyOr Q ready turned r
-  ReadyOr-within ready P Q within (Ok s) p = within _ p
+  ReadyOr-within ready P Q within (Ok s) p = (within _ p.0, p.1)
   ReadyOr-within ready P Q within (Err e) (inl p) = inl (within _ p)
   ReadyOr-within ready P Q within (Err e) (inr t) = inr (record {
     value = t.value;
@@ -52,9 +52,11 @@ module _ {S E I : Type 0} (turned : E → I → Type 0) where
 
   -- what the readiness of a service that is kept gives
   pub ready-from : (ready : S → Readiness E → Type 0) (P : Result S I → Type 0) (s : S) (kept : Option S) → kept ≡ Some s → P (Ok s)
-      → (Q : Result S E → Type 0) → Within Q (λ r. MatchResult r (λ s. kept ≡ Some s) (λ e. OfKept kept (λ s. ready s (PollReady (Err e)))))
+      → (Q : Result S E → Type 0) → Within Q (λ r. MatchResult r (λ s. (kept ≡ Some s) × ready s (PollReady (Ok tt))) (λ e. OfKept kept (λ s. ready s (PollReady (Err e)))))
       → (r : Result S I) → AwaitsReady Q turned r → ReadyOr P ready turned r
-  ready-from ready P s kept is came Q within (Ok t) q = kept-is P s kept is came t (within (Ok t) q)
+  ready-from ready P s kept is came Q within (Ok t) q =
+      let one = within (Ok t) q in
+      (kept-is P s kept is came t one.0, one.1)
   ready-from ready P s kept is came Q within (Err e) t =
       let one = within (Err t.value) t.may_come in
       inr (record {
@@ -71,18 +73,19 @@ module _ {S T Q R E F Q' R' E' F' I Fut : Type 0} (inner : ServiceOf S Q R E F) 
   pub Makes-through : Within P (Makes inner may ready begin make init)
       → ((s : S) → inner.can_call s → GivesCallable g outer.can_call (answers s))
       → Within (ThroughService (ReadyOr P inner.may_ready turned) g answers) (Makes outer
-      (λ q r. OfMade inner may ready begin (λ s. OfGiven g (answers s) (λ made. outer.may made q r)))
-      (λ a. OfMade inner may ready begin (λ s. OfGiven g (answers s) (λ made. outer.may_ready made a)))
-      (λ q f. OfMade inner may ready begin (λ s. OfGiven g (answers s) (λ made. outer.may_begin made q f)))
-      (make × OfMade inner may ready begin (λ s. OfGiven g (answers s) (λ _. ⊤)))
+      (λ q r. OfReady inner may ready begin (λ s. OfGiven g (answers s) (λ made. outer.may made q r)))
+      (λ a. OfReady inner may ready begin (λ s. OfGiven g (answers s) (λ made. outer.may_ready made a)))
+      (λ q f. OfReady inner may ready begin (λ s. OfGiven g (answers s) (λ made. outer.may_begin made q f)))
+      (make × OfReady inner may ready begin (λ s. OfGiven g (answers s) (λ _. ⊤)))
       (λ e. init e ⊎ (Through (λ from. ready (PollReady (Err from))) (λ from. turned from e)
-      ⊎ (OfMade inner may ready begin (λ s. GivenBy g (answers s) (Err e)) ⊎ (e ≡ refusal)))))
+      ⊎ (OfReady inner may ready begin (λ s. GivenBy g (answers s) (Err e)) ⊎ (e ≡ refusal)))))
   Makes-through within callable (Ok made) by =
-      let from = within (Ok by.service) by.comes in
-      let of : (P : T → Type 0) → P made → OfMade inner may ready begin (λ s. OfGiven g (answers s) P) =
+      let from = within (Ok by.service) by.comes.0 in
+      let of : (P : T → Type 0) → P made → OfReady inner may ready begin (λ s. OfGiven g (answers s) P) =
       (λ P holds. record {
         made = by.service;
         lies = from.1;
+        is_ready = by.comes.1;
         holds = record { future = by.given.future; answered = by.given.answered; service = made; given = by.given.gives; holds = holds };
       }) in (
         (from.0, of _ tt),
@@ -98,5 +101,5 @@ module _ {S T Q R E F Q' R' E' F' I Fut : Type 0} (inner : ServiceOf S Q R E F) 
       let from = within (Ok t.may_come.value) t.may_come.may_come in
       inr (inl (record { value = t.value; may_come = from.1.readiness _ t.may_come.holds; holds = t.holds }))
   Makes-through within callable (Err e) (inr by) =
-      let from = within (Ok by.service) by.comes in
-      inr (inr (inl (record { made = by.service; lies = from.1; holds = by.given })))
+      let from = within (Ok by.service) by.comes.0 in
+      inr (inr (inl (record { made = by.service; lies = from.1; is_ready = by.comes.1; holds = by.given })))

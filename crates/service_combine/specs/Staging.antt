@@ -4,7 +4,9 @@ use Rattle.futures.specs.declared.future.Future.{Ghosts as FutureOf}
 use Rattle.futures.specs.declared.task.Poll.TheVariants.{Ready as PollReady}
 use Rattle.service_core.specs.Closures.{GivenBy}
 use Rattle.service_core.specs.Counts.{Rose}
+use Rattle.service_core.specs.Making.{LiesWithin}
 use Rattle.service_core.specs.Meaning.{Readiness}
+use Rattle.service_core.specs.declared.service.Service.{Ghosts as ServiceOf}
 use Rattle.service_combine.specs.Applying.{Answers}
 use Rattle.service_combine.specs.Configuring.{GivesCallable, Through}
 use Rattle.service_combine.specs.declared.config_stage.ConfigStage.{ConfigStage}
@@ -13,11 +15,20 @@ use Rattle.service_combine.specs.declared.made_ready.MadeReady.{MadeReady}
 use Rattle.service_combine.specs.declared.made_ready.MadeReady.TheVariants.{Making, Readying, Done as Given}
 use denote.Ref.{Bor}
 
--- a service of P, an error of P, or an error turned from one that such a service's readiness may answer
+-- a service of P that may be ready, an error of P, or an error turned from one that such a service's readiness may answer
 abbrev pub ReadyOr : {S E I : Type 0} → (Result S I → Type 0) → (S → Readiness E → Type 0) → (E → I → Type 0) → Result S I → Type 0
-ReadyOr P ready turned (Ok s) = P (Ok s)
+ReadyOr P ready turned (Ok s) = P (Ok s) × ready s (PollReady (Ok tt))
 ReadyOr {S} {E} P ready turned (Err e) =
     P (Err e) ⊎ Through (λ from. Through (λ s. P (Ok s)) (λ s. ready s (PollReady (Err from)))) (λ from. turned from e)
+
+-- some service within the relations of its maker, which may be ready, and of which P holds
+pub record OfReady {S Q R E F : Type 0} (g : ServiceOf S Q R E F)
+    (may : Q → Result R E → Type 0) (may_ready : Readiness E → Type 0) (may_begin : Q → F → Type 0)
+    (P : S → Type 0) : Type 0 where
+  pub made : S
+  pub lies : LiesWithin g made may may_ready may_begin
+  pub is_ready : g.may_ready made (PollReady (Ok tt))
+  pub holds : P made
 
 -- a service of P, or an error turned from one of P
 abbrev pub AwaitsReady : {S E I : Type 0} → (Result S E → Type 0) → (E → I → Type 0) → Result S I → Type 0

@@ -2,10 +2,9 @@ ghost use Rattle.std.specs.Prelude.{◌≡◌, ◌⊎◌, ⊤, Err as Fails, IfO
 ghost use Rattle.std.specs.Arc.{arc_value};
 ghost use Rattle.futures.specs.declared.task.Poll.TheVariants.{Ready as PollReady};
 ghost use Rattle.service_core.specs.Closures.{GivenBy};
-ghost use Rattle.service_core.specs.Making.{OfMade};
 ghost use Rattle.service_combine.specs.Applying.{Answers};
 ghost use Rattle.service_combine.specs.Configuring.{OfGiven, Through};
-ghost use Rattle.service_combine.specs.Staging.{MakesFrom};
+ghost use Rattle.service_combine.specs.Staging.{MakesFrom, OfReady};
 
 use crate::ApplyConfigServiceFactoryResponse;
 use crate::config_stage::ConfigStage;
@@ -88,26 +87,26 @@ where
     ghost can_make = { λ a. SF.can_make (arc_value a.srv).0 × ((c : Cfg) (s : SF.Service) → SF.Service.can_call s
         → MakesFrom Fut.Future (F.pre (arc_value a.srv).1) (F.post (arc_value a.srv).1) S.can_call c s) };
 
-    ghost may = { λ a c q r. OfMade SF.Service.Service (SF.may (arc_value a.srv).0 tt) (SF.may_ready (arc_value a.srv).0 tt)
+    ghost may = { λ a c q r. OfReady SF.Service.Service (SF.may (arc_value a.srv).0 tt) (SF.may_ready (arc_value a.srv).0 tt)
         (SF.may_begin (arc_value a.srv).0 tt) (λ s. OfGiven Fut.Future (Answers (F.post (arc_value a.srv).1) s c)
         (λ made. S.may made q r)) };
 
-    ghost may_ready = { λ a c answer. OfMade SF.Service.Service (SF.may (arc_value a.srv).0 tt) (SF.may_ready (arc_value a.srv).0 tt)
+    ghost may_ready = { λ a c answer. OfReady SF.Service.Service (SF.may (arc_value a.srv).0 tt) (SF.may_ready (arc_value a.srv).0 tt)
         (SF.may_begin (arc_value a.srv).0 tt) (λ s. OfGiven Fut.Future (Answers (F.post (arc_value a.srv).1) s c)
         (λ made. S.may_ready made answer)) };
 
-    ghost may_begin = { λ a c q f. OfMade SF.Service.Service (SF.may (arc_value a.srv).0 tt) (SF.may_ready (arc_value a.srv).0 tt)
+    ghost may_begin = { λ a c q f. OfReady SF.Service.Service (SF.may (arc_value a.srv).0 tt) (SF.may_ready (arc_value a.srv).0 tt)
         (SF.may_begin (arc_value a.srv).0 tt) (λ s. OfGiven Fut.Future (Answers (F.post (arc_value a.srv).1) s c)
         (λ made. S.may_begin made q f)) };
 
     ghost may_init = { λ a c e. SF.may_init (arc_value a.srv).0 tt e
         ⊎ (Through (λ from. SF.may_ready (arc_value a.srv).0 tt (PollReady (Fails from))) (λ from. SF.InitError.From.from_gives from e)
-        ⊎ (OfMade SF.Service.Service (SF.may (arc_value a.srv).0 tt) (SF.may_ready (arc_value a.srv).0 tt)
+        ⊎ (OfReady SF.Service.Service (SF.may (arc_value a.srv).0 tt) (SF.may_ready (arc_value a.srv).0 tt)
         (SF.may_begin (arc_value a.srv).0 tt) (λ s. GivenBy Fut.Future (Answers (F.post (arc_value a.srv).1) s c) (Fails e))
         ⊎ (e ≡ SF.InitError.refusal))) };
 
     ghost may_make = { λ a c. SF.may_make (arc_value a.srv).0 tt
-        × OfMade SF.Service.Service (SF.may (arc_value a.srv).0 tt) (SF.may_ready (arc_value a.srv).0 tt)
+        × OfReady SF.Service.Service (SF.may (arc_value a.srv).0 tt) (SF.may_ready (arc_value a.srv).0 tt)
         (SF.may_begin (arc_value a.srv).0 tt) (λ s. OfGiven Fut.Future (Answers (F.post (arc_value a.srv).1) s c) (λ _. ⊤)) };
 
     ghost begun_gives = { λ a c q f begun.
@@ -117,6 +116,7 @@ where
           λ r may. record {
             made = begun.made;
             lies = begun.lies;
+            is_ready = begun.is_ready;
             holds = record {
               future = given.future;
               answered = given.answered;

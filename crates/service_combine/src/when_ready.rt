@@ -30,7 +30,7 @@ impl<S: Service<Req> + Drop, Req: Drop> Future for WhenReady<S, Req> {
 
     ghost can_poll = { λ w. OfKept w.service S.can_call };
 
-    ghost gives = { λ w r. MatchResult r (λ s. w.service ≡ Some s)
+    ghost gives = { λ w r. MatchResult r (λ s. (w.service ≡ Some s) × S.may_ready s (PollReady (Ok tt)))
         (λ e. OfKept w.service (λ s. S.may_ready s (PollReady (Err e)))) };
 
     fn poll(&mut self, cx: &mut Context<'_>) -> Poll<Result<S, S::Error>> {

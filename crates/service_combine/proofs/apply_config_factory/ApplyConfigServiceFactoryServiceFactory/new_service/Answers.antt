@@ -8,7 +8,7 @@ returns-in-Ok-clause-pollable g c =
     rw (c.of.ensures, c.in-Ok.ensures) (
       (c.new_service.ensures.pollable, λ s given. (made (Ok s) given).1.callable),
       λ s given.
-          let from = c.requires.1 c.args.cfg s (made (Ok s) given).1.callable in
+          let from = c.requires.1 c.args.cfg s (made (Ok s) given.0).1.callable in
           record {
             callable = from.callable;
             makes = record { pollable = from.makes.pollable; callable = λ f t answered gives. tt };
