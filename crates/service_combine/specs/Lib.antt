@@ -6,3 +6,4 @@ pub mod Making
 pub mod Configuring
 pub mod Pairing
 pub mod Staging
+pub mod Same

@@ -2,6 +2,7 @@ ghost use Rattle.std.specs.Prelude.{◌≡◌, IfOk};
 ghost use Rattle.std.specs.Arc.{arc_value};
 ghost use Rattle.service_core.specs.Meaning.{GivesOnly};
 ghost use Rattle.service_combine.specs.Meaning.{Mapped, OrRefused};
+ghost use Rattle.service_combine.specs.Same.{MeansSame};
 
 use crate::MapFuture;
 use crate::one_stage::OneStage;
@@ -34,6 +35,38 @@ where
             f,
             types: PhantomData,
         })
+    }
+}
+
+impl<A: Clone, F: Drop, Req, Res> Clone for Map<A, F, Req, Res> {
+    ghost is_clone = { λ m copy. A.is_clone m.service copy.service × (arc_value copy.f ≡ arc_value m.f) };
+
+    fn clone(&self) -> Result<Map<A, F, Req, Res>, AllocError> {
+        let service = self.service.clone()?;
+        let f = Arc::try_clone(&self.f)?;
+        Ok(Map {
+            service,
+            f,
+            types: PhantomData,
+        })
+    }
+}
+
+impl<A, F, Req, Res> Map<A, F, Req, Res>
+where
+    Req: Drop,
+    A: Service<Req, Error: NoMemory> + Clone,
+    F: Fn(A::Response) -> Res + Drop,
+{
+    /// A copy that shares the closure. It means what this service means, where a clone of the part means what the part
+    /// means.
+    pub fn clone(&self) -> Result<Map<A, F, Req, Res>, AllocError>
+        ensures clone { IfOk result (⟦<Map<A, F, Req, Res> as Clone>⟧.is_clone self.now) }
+        ensures meaning { IfOk result (λ copy. MeansSame A.Service self.now.service copy.service
+            → MeansSame ⟦<Map<A, F, Req, Res> as Service<Req>>⟧ self.now copy) }
+    {
+        let copy = Clone::clone(self)?;
+        Ok(copy)
     }
 }
 

@@ -1,0 +1,19 @@
+use Rattle.std.proofs.Common.{◌≡◌, sym}
+use Rattle.service_combine.proofs.MeaningLemmas.{Follows-within, OrRefused-within}
+use Rattle.service_combine.proofs.map.Map.clone.Goals as goal
+
+pub returns-clause-meaning : goal.returns-clause-meaning
+returns-clause-meaning g c =
+    let is = c.in_ok-copy.ensures.cases in
+    λ same. record {
+      callable = (λ can. (same.callable.0 can.0, rw is.1 at can.1), λ can. (same.callable.1 can.0, rw is.1 can.1));
+      answers = λ q. (
+        λ r may. OrRefused-within _ _ _ (Follows-within _ _ _ (same.answers q).0) r (rw is.1 at may),
+        λ r may. rw is.1 (OrRefused-within _ _ _ (Follows-within _ _ _ (same.answers q).1) r may),
+      );
+      readiness = same.readiness;
+      futures = λ q. (
+        λ f begun. (begun.0, λ r may. OrRefused-within _ _ _ (Follows-within _ _ _ (same.answers q).0) r (rw is.1 at (begun.1 r may))),
+        λ f begun. (begun.0, λ r may. rw is.1 (OrRefused-within _ _ _ (Follows-within _ _ _ (same.answers q).1) r (begun.1 r may))),
+      );
+    }
