@@ -1,5 +1,6 @@
 -- What it is for a copy to mean what its original means.
 use Rattle.service_core.specs.Meaning.{Within}
+use Rattle.service_combine.specs.Configuring.{Through}
 use Rattle.service_core.specs.declared.service.Service.{Ghosts as ServiceOf}
 use Rattle.service_core.specs.declared.service_factory.ServiceFactory.{Ghosts as FactoryOf}
 use Rattle.service_core.specs.declared.transform.Transform.{Ghosts as TransformOf}
@@ -31,3 +32,7 @@ pub record WrapsSame {T S Q R E W I U F : Type 0} (g : TransformOf T S Q R E W I
   pub readiness : (s : S) → Alike (g.may_ready copy s) (g.may_ready t s)
   pub errors : Alike (g.may_init copy) (g.may_init t)
   pub makes : (g.may_make copy → g.may_make t) × (g.may_make t → g.may_make copy)
+
+-- h goes from x to z exactly where f goes from x to some y and g from there to z
+abbrev pub IsThrough : {X Y Z : Type 0} → (X → Y → Type 0) → (Y → Z → Type 0) → (X → Z → Type 0) → Type 0
+IsThrough {X} {Y} {Z} f g h = (x : X) (z : Z) → (h x z → Through (f x) (λ y. g y z)) × (Through (f x) (λ y. g y z) → h x z)

@@ -19,6 +19,7 @@ mod config_stage;
 mod fn_config;
 mod fn_no_config;
 mod half;
+pub mod laws;
 mod made_ready;
 mod making;
 mod map;
