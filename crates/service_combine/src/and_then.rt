@@ -58,7 +58,7 @@ impl<A: Drop, B: Drop, Req> Clone for AndThenService<A, B, Req> {
 impl<A, B, Req> Service<Req> for AndThenService<A, B, Req>
 where
     Req: Drop,
-    A: Service<Req, Response: Drop, Error: NoMemory> + Drop,
+    A: Service<Req, Error: NoMemory> + Drop,
     B: Service<A::Response, Error = A::Error> + Drop,
 {
     type Response = B::Response;

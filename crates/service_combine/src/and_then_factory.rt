@@ -64,14 +64,7 @@ impl<A: Drop, B: Drop, Req> Clone for AndThenServiceFactory<A, B, Req> {
 impl<A, B, Req> ServiceFactory<Req> for AndThenServiceFactory<A, B, Req>
 where
     Req: Drop,
-    A: ServiceFactory<
-        Req,
-        Response: Drop,
-        Config: Clone,
-        Error: NoMemory,
-        InitError: NoMemory,
-        Service: Drop,
-    >
+    A: ServiceFactory<Req, Config: Clone, Error: NoMemory, InitError: NoMemory, Service: Drop>
         + Drop,
     B: ServiceFactory<
         A::Response,

@@ -14,7 +14,7 @@ pub fn and_then_associative<A, B, C, Req>(
 where
     Req: Drop,
     A: Service<Req, Response: Drop, Error: NoMemory> + Drop,
-    B: Service<A::Response, Response: Drop, Error = A::Error> + Drop,
+    B: Service<A::Response, Error = A::Error> + Drop,
     C: Service<B::Response, Error = A::Error> + Drop,
     requires first { (arc_value (arc_value _left.now.parts).0.parts).0 ≡ (arc_value _right.now.parts).0 }
     requires second { (arc_value (arc_value _left.now.parts).0.parts).1 ≡ (arc_value (arc_value _right.now.parts).1.parts).0 }
@@ -55,7 +55,7 @@ pub fn errors_pass<A, B, C, Req>(
 )
 where
     Req: Drop,
-    A: Service<Req, Response: Drop, Error: NoMemory> + Drop,
+    A: Service<Req, Error: NoMemory> + Drop,
     B: Service<A::Response, Error = A::Error> + Drop,
     C: Service<Result<A::Response, A::Error>, Error = A::Error> + Drop,
     ensures and_then { (q : Req) (e : A.Error) → ((r : _) → A.may (arc_value _and_then.now.parts).0 q r → r ≡ Err e)
