@@ -3,6 +3,7 @@ ghost use Rattle.std.specs.Arc.{arc_value};
 ghost use Rattle.service_core.specs.Closures.{GivenBy};
 ghost use Rattle.service_core.specs.Making.{OfMade};
 ghost use Rattle.service_combine.specs.Applying.{Answers, TakesLent};
+ghost use Rattle.service_combine.specs.Same.{MakesSame};
 
 use crate::making::Making;
 use crate::{Apply, ApplyServiceFactoryResponse};
@@ -43,6 +44,42 @@ pub struct ApplyFactory<SF, F, Req, In, Res, Err> {
     pub(crate) factory: SF,
     pub(crate) wrap_fn: Arc<F>,
     pub(crate) types: PhantomData<(Req, In, Res, Err)>,
+}
+
+impl<SF: Clone, F: Drop, Req, In, Res, Err> Clone for ApplyFactory<SF, F, Req, In, Res, Err> {
+    ghost is_clone = { λ a copy. SF.is_clone a.factory copy.factory × (arc_value copy.wrap_fn ≡ arc_value a.wrap_fn) };
+
+    fn clone(&self) -> Result<ApplyFactory<SF, F, Req, In, Res, Err>, AllocError> {
+        let factory = self.factory.clone()?;
+        let wrap_fn = Arc::try_clone(&self.wrap_fn)?;
+        Ok(ApplyFactory {
+            factory,
+            wrap_fn,
+            types: PhantomData,
+        })
+    }
+}
+
+impl<SF, F, Fut, Req, In, Res, Err> ApplyFactory<SF, F, Req, In, Res, Err>
+where
+    Req: Drop,
+    In: Drop,
+    Res: Drop,
+    Err: Drop,
+    SF: ServiceFactory<In, Config: Drop, Error = Err, InitError: NoMemory> + Clone,
+    F: Fn(Req, &SF::Service) -> Fut + Drop,
+    Fut: Future<Output = Result<Res, Err>>,
+{
+    /// A copy that shares the closure. It makes what this factory makes, where a clone of the part makes what the part
+    /// makes.
+    pub fn clone(&self) -> Result<ApplyFactory<SF, F, Req, In, Res, Err>, AllocError>
+        ensures clone { IfOk result (⟦<ApplyFactory<SF, F, Req, In, Res, Err> as Clone>⟧.is_clone self.now) }
+        ensures meaning { IfOk result (λ copy. MakesSame ⟦<SF as ServiceFactory<In>>⟧ self.now.factory copy.factory
+            → MakesSame ⟦<ApplyFactory<SF, F, Req, In, Res, Err> as ServiceFactory<Req>>⟧ self.now copy) }
+    {
+        let copy = Clone::clone(self)?;
+        Ok(copy)
+    }
 }
 
 impl<SF, F, Fut, Req, In, Res, Err> ServiceFactory<Req> for ApplyFactory<SF, F, Req, In, Res, Err>

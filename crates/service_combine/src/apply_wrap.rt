@@ -2,6 +2,7 @@ ghost use Rattle.std.specs.Prelude.{◌≡◌, IfOk};
 ghost use Rattle.std.specs.Arc.{arc_value};
 ghost use Rattle.service_core.specs.Closures.{GivenBy};
 ghost use Rattle.service_combine.specs.Applying.{Answers, TakesLent};
+ghost use Rattle.service_combine.specs.Same.{MeansSame};
 
 use futures::Future;
 use futures::task::{Context, Poll};
@@ -41,6 +42,38 @@ pub struct Apply<S, F, Req, In, Res, Err> {
     pub(crate) service: S,
     pub(crate) wrap_fn: Arc<F>,
     pub(crate) types: PhantomData<(Req, In, Res, Err)>,
+}
+
+impl<S: Clone, F: Drop, Req, In, Res, Err> Clone for Apply<S, F, Req, In, Res, Err> {
+    ghost is_clone = { λ a copy. S.is_clone a.service copy.service × (arc_value copy.wrap_fn ≡ arc_value a.wrap_fn) };
+
+    fn clone(&self) -> Result<Apply<S, F, Req, In, Res, Err>, AllocError> {
+        let service = self.service.clone()?;
+        let wrap_fn = Arc::try_clone(&self.wrap_fn)?;
+        Ok(Apply {
+            service,
+            wrap_fn,
+            types: PhantomData,
+        })
+    }
+}
+
+impl<S, F, Fut, Req, In, Res, Err> Apply<S, F, Req, In, Res, Err>
+where
+    S: Service<In, Error = Err> + Clone,
+    F: Fn(Req, &S) -> Fut + Drop,
+    Fut: Future<Output = Result<Res, Err>>,
+{
+    /// A copy that shares the closure. It means what this service means, where a clone of the part is the part itself:
+    /// it is lent to the closure.
+    pub fn clone(&self) -> Result<Apply<S, F, Req, In, Res, Err>, AllocError>
+        ensures clone { IfOk result (⟦<Apply<S, F, Req, In, Res, Err> as Clone>⟧.is_clone self.now) }
+        ensures meaning { IfOk result (λ copy. copy.service ≡ self.now.service
+            → MeansSame ⟦<Apply<S, F, Req, In, Res, Err> as Service<Req>>⟧ self.now copy) }
+    {
+        let copy = Clone::clone(self)?;
+        Ok(copy)
+    }
 }
 
 impl<S, F, Fut, Req, In, Res, Err> Service<Req> for Apply<S, F, Req, In, Res, Err>

@@ -1,5 +1,6 @@
 ghost use Rattle.std.specs.Prelude.{◌≡◌, IfOk};
 ghost use Rattle.std.specs.Arc.{arc_value};
+ghost use Rattle.service_combine.specs.Same.{MeansSame};
 
 use crate::{AndThenService, Map, MapErr, ThenService};
 use futures::task::{Context, Poll};
@@ -104,6 +105,33 @@ where
             service,
             request: PhantomData,
         })
+    }
+}
+
+impl<S: Clone, Req> Clone for Pipeline<S, Req> {
+    ghost is_clone = { λ p copy. S.is_clone p.service copy.service };
+
+    fn clone(&self) -> Result<Pipeline<S, Req>, AllocError> {
+        let service = self.service.clone()?;
+        Ok(Pipeline {
+            service,
+            request: PhantomData,
+        })
+    }
+}
+
+impl<S, Req> Pipeline<S, Req>
+where
+    S: Service<Req> + Clone,
+{
+    /// A copy. It means what this service means, where a clone of the part means what the part means.
+    pub fn clone(&self) -> Result<Pipeline<S, Req>, AllocError>
+        ensures clone { IfOk result (⟦<Pipeline<S, Req> as Clone>⟧.is_clone self.now) }
+        ensures meaning { IfOk result (λ copy. MeansSame S.Service self.now.service copy.service
+            → MeansSame ⟦<Pipeline<S, Req> as Service<Req>>⟧ self.now copy) }
+    {
+        let copy = Clone::clone(self)?;
+        Ok(copy)
     }
 }
 

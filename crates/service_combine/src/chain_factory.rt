@@ -1,5 +1,6 @@
 ghost use Rattle.std.specs.Prelude.{◌≡◌, IfOk};
 ghost use Rattle.std.specs.Arc.{arc_value};
+ghost use Rattle.service_combine.specs.Same.{MakesSame};
 
 use crate::{
     AndThenServiceFactory, MapErrServiceFactory, MapInitErr, MapServiceFactory, ThenServiceFactory,
@@ -138,6 +139,33 @@ where
             factory,
             request: PhantomData,
         })
+    }
+}
+
+impl<SF: Clone, Req> Clone for PipelineFactory<SF, Req> {
+    ghost is_clone = { λ p copy. SF.is_clone p.factory copy.factory };
+
+    fn clone(&self) -> Result<PipelineFactory<SF, Req>, AllocError> {
+        let factory = self.factory.clone()?;
+        Ok(PipelineFactory {
+            factory,
+            request: PhantomData,
+        })
+    }
+}
+
+impl<SF, Req> PipelineFactory<SF, Req>
+where
+    SF: ServiceFactory<Req> + Clone,
+{
+    /// A copy. It makes what this factory makes, where a clone of the part makes what the part makes.
+    pub fn clone(&self) -> Result<PipelineFactory<SF, Req>, AllocError>
+        ensures clone { IfOk result (⟦<PipelineFactory<SF, Req> as Clone>⟧.is_clone self.now) }
+        ensures meaning { IfOk result (λ copy. MakesSame ⟦<SF as ServiceFactory<Req>>⟧ self.now.factory copy.factory
+            → MakesSame ⟦<PipelineFactory<SF, Req> as ServiceFactory<Req>>⟧ self.now copy) }
+    {
+        let copy = Clone::clone(self)?;
+        Ok(copy)
     }
 }
 

@@ -1,6 +1,7 @@
 ghost use Rattle.std.specs.Prelude.{◌≡◌, IfOk};
 ghost use Rattle.std.specs.Arc.{arc_value};
 ghost use Rattle.service_combine.specs.Configuring.{Through};
+ghost use Rattle.service_combine.specs.Same.{MakesSame};
 
 use service_core::{IntoServiceFactory, ServiceFactory};
 use std::alloc::{AllocError, Global};
@@ -36,6 +37,37 @@ pub struct MapConfig<SF, Req, F, Cfg> {
     pub(crate) factory: SF,
     pub(crate) cfg_mapper: Arc<F>,
     pub(crate) types: PhantomData<(Req, Cfg)>,
+}
+
+impl<SF: Clone, Req, F: Drop, Cfg> Clone for MapConfig<SF, Req, F, Cfg> {
+    ghost is_clone = { λ m copy. SF.is_clone m.factory copy.factory × (arc_value copy.cfg_mapper ≡ arc_value m.cfg_mapper) };
+
+    fn clone(&self) -> Result<MapConfig<SF, Req, F, Cfg>, AllocError> {
+        let factory = self.factory.clone()?;
+        let cfg_mapper = Arc::try_clone(&self.cfg_mapper)?;
+        Ok(MapConfig {
+            factory,
+            cfg_mapper,
+            types: PhantomData,
+        })
+    }
+}
+
+impl<SF, Req, F, Cfg> MapConfig<SF, Req, F, Cfg>
+where
+    SF: ServiceFactory<Req> + Clone,
+    F: Fn(Cfg) -> SF::Config + Drop,
+{
+    /// A copy that shares the closure. It makes what this factory makes, where a clone of the part makes what the part
+    /// makes.
+    pub fn clone(&self) -> Result<MapConfig<SF, Req, F, Cfg>, AllocError>
+        ensures clone { IfOk result (⟦<MapConfig<SF, Req, F, Cfg> as Clone>⟧.is_clone self.now) }
+        ensures meaning { IfOk result (λ copy. MakesSame ⟦<SF as ServiceFactory<Req>>⟧ self.now.factory copy.factory
+            → MakesSame ⟦<MapConfig<SF, Req, F, Cfg> as ServiceFactory<Req>>⟧ self.now copy) }
+    {
+        let copy = Clone::clone(self)?;
+        Ok(copy)
+    }
 }
 
 impl<SF, Req, F, Cfg> ServiceFactory<Req> for MapConfig<SF, Req, F, Cfg>

@@ -3,6 +3,7 @@ ghost use Rattle.std.specs.Arc.{arc_value};
 ghost use Rattle.service_core.specs.Meaning.{GivesOnly};
 ghost use Rattle.service_combine.specs.Meaning.{MappedErr, OrRefused};
 ghost use Rattle.service_combine.specs.Readying.{ReadyErrBy};
+ghost use Rattle.service_combine.specs.Same.{MeansSame};
 
 use crate::MapErrFuture;
 use crate::one_stage::OneStage;
@@ -36,6 +37,39 @@ where
             f,
             types: PhantomData,
         })
+    }
+}
+
+impl<A: Clone, Req, F: Drop, E> Clone for MapErr<A, Req, F, E> {
+    ghost is_clone = { λ m copy. A.is_clone m.service copy.service × (arc_value copy.f ≡ arc_value m.f) };
+
+    fn clone(&self) -> Result<MapErr<A, Req, F, E>, AllocError> {
+        let service = self.service.clone()?;
+        let f = Arc::try_clone(&self.f)?;
+        Ok(MapErr {
+            service,
+            f,
+            types: PhantomData,
+        })
+    }
+}
+
+impl<A, Req, F, E> MapErr<A, Req, F, E>
+where
+    Req: Drop,
+    A: Service<Req> + Clone,
+    E: NoMemory,
+    F: Fn(A::Error) -> E + Drop,
+{
+    /// A copy that shares the closure. It means what this service means, where a clone of the part means what the part
+    /// means.
+    pub fn clone(&self) -> Result<MapErr<A, Req, F, E>, AllocError>
+        ensures clone { IfOk result (⟦<MapErr<A, Req, F, E> as Clone>⟧.is_clone self.now) }
+        ensures meaning { IfOk result (λ copy. MeansSame A.Service self.now.service copy.service
+            → MeansSame ⟦<MapErr<A, Req, F, E> as Service<Req>>⟧ self.now copy) }
+    {
+        let copy = Clone::clone(self)?;
+        Ok(copy)
     }
 }
 

@@ -3,6 +3,7 @@ ghost use Rattle.std.specs.Arc.{arc_value};
 ghost use Rattle.service_core.specs.Meaning.{GivesOnly};
 ghost use Rattle.service_combine.specs.Meaning.{MappedErr, OrRefused};
 ghost use Rattle.service_combine.specs.Readying.{ReadyErrBy};
+ghost use Rattle.service_combine.specs.Same.{MakesSame};
 
 use crate::making::Making;
 use crate::{MapErr, MapErrFuture, MapErrServiceFuture};
@@ -39,6 +40,39 @@ where
             f,
             types: PhantomData,
         })
+    }
+}
+
+impl<A: Clone, Req, F: Drop, E> Clone for MapErrServiceFactory<A, Req, F, E> {
+    ghost is_clone = { λ m copy. A.is_clone m.factory copy.factory × (arc_value copy.f ≡ arc_value m.f) };
+
+    fn clone(&self) -> Result<MapErrServiceFactory<A, Req, F, E>, AllocError> {
+        let factory = self.factory.clone()?;
+        let f = Arc::try_clone(&self.f)?;
+        Ok(MapErrServiceFactory {
+            factory,
+            f,
+            types: PhantomData,
+        })
+    }
+}
+
+impl<A, Req, F, E> MapErrServiceFactory<A, Req, F, E>
+where
+    Req: Drop,
+    E: NoMemory,
+    A: ServiceFactory<Req, Config: Drop, InitError: NoMemory> + Clone,
+    F: Fn(A::Error) -> E + Drop,
+{
+    /// A copy that shares the closure. It makes what this factory makes, where a clone of the part makes what the part
+    /// makes.
+    pub fn clone(&self) -> Result<MapErrServiceFactory<A, Req, F, E>, AllocError>
+        ensures clone { IfOk result (⟦<MapErrServiceFactory<A, Req, F, E> as Clone>⟧.is_clone self.now) }
+        ensures meaning { IfOk result (λ copy. MakesSame ⟦<A as ServiceFactory<Req>>⟧ self.now.factory copy.factory
+            → MakesSame ⟦<MapErrServiceFactory<A, Req, F, E> as ServiceFactory<Req>>⟧ self.now copy) }
+    {
+        let copy = Clone::clone(self)?;
+        Ok(copy)
     }
 }
 

@@ -1,6 +1,7 @@
 ghost use Rattle.std.specs.Prelude.{◌≡◌, ◌⊎◌, IfOk};
 ghost use Rattle.std.specs.Arc.{arc_value};
 ghost use Rattle.service_combine.specs.Configuring.{Through};
+ghost use Rattle.service_combine.specs.Same.{MakesSame};
 
 use crate::one_stage::OneStage;
 use crate::{MapErrFuture, MapInitErrFuture};
@@ -36,6 +37,38 @@ where
             f,
             types: PhantomData,
         })
+    }
+}
+
+impl<A: Clone, F: Drop, Req, E> Clone for MapInitErr<A, F, Req, E> {
+    ghost is_clone = { λ m copy. A.is_clone m.factory copy.factory × (arc_value copy.f ≡ arc_value m.f) };
+
+    fn clone(&self) -> Result<MapInitErr<A, F, Req, E>, AllocError> {
+        let factory = self.factory.clone()?;
+        let f = Arc::try_clone(&self.f)?;
+        Ok(MapInitErr {
+            factory,
+            f,
+            types: PhantomData,
+        })
+    }
+}
+
+impl<A, F, Req, E> MapInitErr<A, F, Req, E>
+where
+    A: ServiceFactory<Req, Config: Drop> + Clone,
+    F: Fn(A::InitError) -> E + Drop,
+    E: NoMemory,
+{
+    /// A copy that shares the closure. It makes what this factory makes, where a clone of the part makes what the part
+    /// makes.
+    pub fn clone(&self) -> Result<MapInitErr<A, F, Req, E>, AllocError>
+        ensures clone { IfOk result (⟦<MapInitErr<A, F, Req, E> as Clone>⟧.is_clone self.now) }
+        ensures meaning { IfOk result (λ copy. MakesSame ⟦<A as ServiceFactory<Req>>⟧ self.now.factory copy.factory
+            → MakesSame ⟦<MapInitErr<A, F, Req, E> as ServiceFactory<Req>>⟧ self.now copy) }
+    {
+        let copy = Clone::clone(self)?;
+        Ok(copy)
     }
 }
 

@@ -2,6 +2,7 @@ ghost use Rattle.std.specs.Prelude.{◌≡◌, ◌⊎◌, IfOk};
 ghost use Rattle.std.specs.Arc.{arc_value};
 ghost use Rattle.service_core.specs.Meaning.{GivesOnly};
 ghost use Rattle.service_combine.specs.Meaning.{Mapped, OrRefused};
+ghost use Rattle.service_combine.specs.Same.{MakesSame};
 
 use crate::making::Making;
 use crate::{Map, MapFuture, MapServiceFuture};
@@ -38,6 +39,39 @@ where
             f,
             types: PhantomData,
         })
+    }
+}
+
+impl<A: Clone, F: Drop, Req, Res> Clone for MapServiceFactory<A, F, Req, Res> {
+    ghost is_clone = { λ m copy. A.is_clone m.factory copy.factory × (arc_value copy.f ≡ arc_value m.f) };
+
+    fn clone(&self) -> Result<MapServiceFactory<A, F, Req, Res>, AllocError> {
+        let factory = self.factory.clone()?;
+        let f = Arc::try_clone(&self.f)?;
+        Ok(MapServiceFactory {
+            factory,
+            f,
+            types: PhantomData,
+        })
+    }
+}
+
+impl<A, F, Req, Res> MapServiceFactory<A, F, Req, Res>
+where
+    Req: Drop,
+    Res: Drop,
+    A: ServiceFactory<Req, Config: Drop, Error: NoMemory, InitError: NoMemory> + Clone,
+    F: Fn(A::Response) -> Res + Drop,
+{
+    /// A copy that shares the closure. It makes what this factory makes, where a clone of the part makes what the part
+    /// makes.
+    pub fn clone(&self) -> Result<MapServiceFactory<A, F, Req, Res>, AllocError>
+        ensures clone { IfOk result (⟦<MapServiceFactory<A, F, Req, Res> as Clone>⟧.is_clone self.now) }
+        ensures meaning { IfOk result (λ copy. MakesSame ⟦<A as ServiceFactory<Req>>⟧ self.now.factory copy.factory
+            → MakesSame ⟦<MapServiceFactory<A, F, Req, Res> as ServiceFactory<Req>>⟧ self.now copy) }
+    {
+        let copy = Clone::clone(self)?;
+        Ok(copy)
     }
 }
 

@@ -1,6 +1,7 @@
 ghost use Rattle.std.specs.Prelude.{◌≡◌, ◌⊎◌, IfOk};
 ghost use Rattle.std.specs.Arc.{arc_value};
 ghost use Rattle.service_combine.specs.Configuring.{Through};
+ghost use Rattle.service_combine.specs.Same.{WrapsSame};
 
 use crate::one_stage::OneStage;
 use crate::{MapErrFuture, TransformMapInitErrFuture};
@@ -36,6 +37,39 @@ where
             f,
             types: PhantomData,
         })
+    }
+}
+
+impl<T: Clone, S, Req, F: Drop, E> Clone for TransformMapInitErr<T, S, Req, F, E> {
+    ghost is_clone = { λ m copy. T.is_clone m.transform copy.transform × (arc_value copy.f ≡ arc_value m.f) };
+
+    fn clone(&self) -> Result<TransformMapInitErr<T, S, Req, F, E>, AllocError> {
+        let transform = self.transform.clone()?;
+        let f = Arc::try_clone(&self.f)?;
+        Ok(TransformMapInitErr {
+            transform,
+            f,
+            types: PhantomData,
+        })
+    }
+}
+
+impl<T, S, Req, F, E> TransformMapInitErr<T, S, Req, F, E>
+where
+    S: Drop,
+    T: Transform<S, Req> + Clone,
+    F: Fn(T::InitError) -> E + Drop,
+    E: NoMemory,
+{
+    /// A copy that shares the closure. It wraps as this transform wraps, where a clone of the part wraps as the part
+    /// wraps.
+    pub fn clone(&self) -> Result<TransformMapInitErr<T, S, Req, F, E>, AllocError>
+        ensures clone { IfOk result (⟦<TransformMapInitErr<T, S, Req, F, E> as Clone>⟧.is_clone self.now) }
+        ensures meaning { IfOk result (λ copy. WrapsSame ⟦<T as Transform<S, Req>>⟧ self.now.transform copy.transform
+            → WrapsSame ⟦<TransformMapInitErr<T, S, Req, F, E> as Transform<S, Req>>⟧ self.now copy) }
+    {
+        let copy = Clone::clone(self)?;
+        Ok(copy)
     }
 }
 

@@ -1,6 +1,8 @@
-ghost use Rattle.std.specs.Prelude.{◌≡◌};
+ghost use Rattle.std.specs.Prelude.{◌≡◌, IfOk};
+ghost use Rattle.service_combine.specs.Same.{MakesSame};
 
 use service_core::{IntoServiceFactory, ServiceFactory};
+use std::alloc::AllocError;
 use std::marker::PhantomData;
 
 /// The factory `factory`, for every configuration (`actix_service::unit_config`).
@@ -21,6 +23,34 @@ where
 pub struct UnitConfig<SF, Cfg, Req> {
     pub(crate) factory: SF,
     pub(crate) types: PhantomData<(Cfg, Req)>,
+}
+
+impl<SF: Clone, Cfg, Req> Clone for UnitConfig<SF, Cfg, Req> {
+    ghost is_clone = { λ u copy. SF.is_clone u.factory copy.factory };
+
+    fn clone(&self) -> Result<UnitConfig<SF, Cfg, Req>, AllocError> {
+        let factory = self.factory.clone()?;
+        Ok(UnitConfig {
+            factory,
+            types: PhantomData,
+        })
+    }
+}
+
+impl<SF, Cfg, Req> UnitConfig<SF, Cfg, Req>
+where
+    Cfg: Drop,
+    SF: ServiceFactory<Req, Config = ()> + Clone,
+{
+    /// A copy. It makes what this factory makes, where a clone of the part makes what the part makes.
+    pub fn clone(&self) -> Result<UnitConfig<SF, Cfg, Req>, AllocError>
+        ensures clone { IfOk result (⟦<UnitConfig<SF, Cfg, Req> as Clone>⟧.is_clone self.now) }
+        ensures meaning { IfOk result (λ copy. MakesSame ⟦<SF as ServiceFactory<Req>>⟧ self.now.factory copy.factory
+            → MakesSame ⟦<UnitConfig<SF, Cfg, Req> as ServiceFactory<Req>>⟧ self.now copy) }
+    {
+        let copy = Clone::clone(self)?;
+        Ok(copy)
+    }
 }
 
 impl<SF, Cfg, Req> ServiceFactory<Req> for UnitConfig<SF, Cfg, Req>

@@ -1,0 +1,11 @@
+use Rattle.service_combine.proofs.without_config.UnitConfig.clone.Goals as goal
+
+pub returns-clause-meaning : goal.returns-clause-meaning
+returns-clause-meaning g c = λ same. record {
+  callable = same.callable;
+  answers = λ _. same.answers tt;
+  readiness = λ _. same.readiness tt;
+  futures = λ _. same.futures tt;
+  errors = λ _. same.errors tt;
+  makes = λ _. same.makes tt;
+}
