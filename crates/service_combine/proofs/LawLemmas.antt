@@ -1,7 +1,6 @@
 -- Laws of combinators, over the relations of any parts.
-use Rattle.std.proofs.Common.{◌≡◌, ◌⊎◌, ◌∙◌, Result, Ok, Err, inl, inr, refl, sym, rules}
-use Rattle.service_combine.specs.Configuring.{Through}
-use Rattle.service_combine.specs.Meaning.{Chained, Follows, Mapped, OkBy, OkThen, OrRefused}
+use Rattle.std.proofs.Common.{◌≡◌, ◌∙◌, Result, Ok, Err, inl, inr, refl, sym, rules}
+use Rattle.service_combine.specs.Meaning.{Chained, Mapped, OkBy, OkThen, OrRefused}
 use Rattle.service_combine.specs.Same.{IsThrough}
 
 apart : {A E : Type 0} (r : Result A E) (y : A) (e : E) → r ≡ Ok y → r ≡ Err e → ⊥

@@ -1,5 +1,5 @@
 -- What is made of a pair of services lies within what their makers say.
-use Rattle.std.proofs.Common.{◌≡◌, Result, Ok, Err, inl, inr, ◌⊎◌}
+use Rattle.std.proofs.Common.{Result, Ok, Err, inl, inr}
 use Rattle.std.specs.Prelude.{⊤}
 use Rattle.futures.specs.declared.task.Poll.TheVariants.{Ready, Pending}
 use Rattle.service_core.specs.Meaning.{Within, Readiness}

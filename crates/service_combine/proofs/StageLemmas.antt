@@ -8,10 +8,10 @@ use Rattle.futures.specs.declared.future.Future.{Ghosts as FutureOf}
 use Rattle.service_core.specs.Meaning.{Readiness, Within}
 use Rattle.std.specs.Prelude.{⊤}
 use Rattle.service_core.specs.Closures.{GivenBy}
-use Rattle.service_core.specs.Making.{LiesWithin, Makes}
+use Rattle.service_core.specs.Making.{Makes}
 use Rattle.service_core.specs.declared.service.Service.{Ghosts as ServiceOf}
 use Rattle.service_combine.specs.Configuring.{GivesCallable, OfGiven, Through}
-use Rattle.service_combine.specs.Staging.{AwaitsReady, ByService, OfReady, ReadyOr, ThroughService}
+use Rattle.service_combine.specs.Staging.{AwaitsReady, OfReady, ReadyOr, ThroughService}
 
 module _ {S F T I : Type 0} (P : Result S I → Type 0) (g : FutureOf F (Result T I)) (answers : S → F → Type 0) where
   pub from-closure : (s : S) (f : F) → P (Ok s) → answers s f → Within (g.gives f) (ThroughService P g answers)

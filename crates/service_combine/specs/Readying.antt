@@ -1,6 +1,5 @@
 -- What a combinator's readiness may answer, by what its parts' readiness may answer.
-use Rattle.std.specs.Prelude.{◌≡◌, ◌⊎◌, ⊤, Ok, Err}
-use Rattle.futures.specs.declared.task.Poll.{Poll}
+use Rattle.std.specs.Prelude.{◌⊎◌, ⊤, Ok, Err}
 use Rattle.futures.specs.declared.task.Poll.TheVariants.{Ready, Pending}
 use Rattle.service_core.specs.Meaning.{Readiness}
 

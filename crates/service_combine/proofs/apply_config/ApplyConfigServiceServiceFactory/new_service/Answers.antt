@@ -1,4 +1,4 @@
-use Rattle.std.proofs.Common.{refl, ◌≡◌}
+use Rattle.std.proofs.Common.{refl}
 use Rattle.std.specs.Arc.{arc_value}
 use Rattle.service_combine.specs.Applying.{Answers}
 use Rattle.service_combine.proofs.MeaningLemmas.{Makes-given}

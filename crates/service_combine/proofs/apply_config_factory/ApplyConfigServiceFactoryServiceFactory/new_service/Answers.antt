@@ -1,4 +1,4 @@
-use Rattle.std.proofs.Common.{◌≡◌, Ok}
+use Rattle.std.proofs.Common.{Ok}
 use Rattle.service_combine.proofs.StageLemmas.{Makes-through}
 use Rattle.service_combine.proofs.apply_config_factory.ApplyConfigServiceFactoryServiceFactory.new_service.Goals as goal
 

@@ -1,4 +1,4 @@
-use Rattle.std.proofs.Common.{rules, refl, sym, subst, ◌≡◌, Ok}
+use Rattle.std.proofs.Common.{rules, refl, sym, subst, Ok}
 use Rattle.service_combine.specs.Applying.{Answers}
 use Rattle.service_combine.proofs.StageLemmas.{from-polled, ThroughService-within}
 use Rattle.service_combine.proofs.apply_config_factory_response.ApplyConfigServiceFactoryResponseFuture.poll.Goals as goal

@@ -1,4 +1,4 @@
-use Rattle.std.proofs.Common.{rules, inl, ◌≡◌, ◌∙◌}
+use Rattle.std.proofs.Common.{inl, ◌≡◌, ◌∙◌}
 use Rattle.std.specs.Arc.{arc_value}
 use Rattle.service_combine.proofs.MeaningLemmas.{Makes-part, WithPart-pair}
 use Rattle.service_combine.proofs.apply_factory.ApplyFactoryServiceFactory.new_service.Goals as goal

@@ -1,4 +1,3 @@
-use Rattle.std.proofs.Common.{◌≡◌, sym}
 use Rattle.service_combine.proofs.MeaningLemmas.{Follows-within, OrRefused-within}
 use Rattle.service_combine.proofs.map.Map.clone.Goals as goal
 

@@ -1,4 +1,4 @@
-use Rattle.std.proofs.Common.{rules, inl, ◌≡◌, ◌∙◌}
+use Rattle.std.proofs.Common.{inl, ◌≡◌, ◌∙◌}
 use Rattle.std.specs.Arc.{arc_value}
 use Rattle.service_combine.proofs.MeaningLemmas.{Follows-within, OrRefused-within, Makes-part, WithPart-pair}
 use Rattle.service_combine.proofs.map_service_factory.MapServiceFactoryServiceFactory.new_service.Goals as goal
