@@ -16,6 +16,10 @@ mod chain;
 mod chain_factory;
 mod config_map;
 mod config_stage;
+#[cfg(test)]
+mod config_tests;
+#[cfg(test)]
+mod factory_tests;
 mod fn_config;
 mod fn_no_config;
 mod half;
@@ -32,11 +36,15 @@ mod map_init_err;
 mod map_service_factory;
 mod map_service_future;
 mod one_stage;
+#[cfg(test)]
+mod pipeline_tests;
 mod service_ext;
 mod service_factory_ext;
 #[cfg(test)]
 mod service_tests;
 mod start;
+#[cfg(test)]
+mod test_factories;
 #[cfg(test)]
 mod test_services;
 mod then;

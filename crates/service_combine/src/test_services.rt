@@ -55,7 +55,7 @@ pub(crate) enum Word {
 }
 
 /// Answers each request with itself.
-#[derive(Drop)]
+#[derive(Clone, Copy, Drop)]
 pub(crate) struct Echo;
 
 impl<T: Drop> Service<T> for Echo {
@@ -83,7 +83,7 @@ impl<T: Drop> Service<T> for Echo {
 }
 
 /// Is never ready, and answers no request: each time it errs.
-#[derive(Drop)]
+#[derive(Clone, Copy, Drop)]
 pub(crate) struct Faulty {
     pub(crate) fault: Fault,
 }
@@ -113,7 +113,7 @@ impl<T: Drop> Service<T> for Faulty {
 }
 
 /// Answers each request with itself and a word.
-#[derive(Drop)]
+#[derive(Clone, Copy, Drop)]
 pub(crate) struct Tagging {
     pub(crate) tag: Word,
 }
@@ -143,7 +143,7 @@ impl<T: Drop> Service<T> for Tagging {
 }
 
 /// Answers as its request says.
-#[derive(Drop)]
+#[derive(Clone, Copy, Drop)]
 pub(crate) struct Obeying;
 
 impl<T: Drop> Service<Result<T, Fault>> for Obeying {
@@ -171,7 +171,7 @@ impl<T: Drop> Service<Result<T, Fault>> for Obeying {
 }
 
 /// Answers each result with its word and a word on it.
-#[derive(Drop)]
+#[derive(Clone, Copy, Drop)]
 pub(crate) struct Summing;
 
 impl Service<Result<Word, Fault>> for Summing {
@@ -268,7 +268,7 @@ impl<S: Service<Req>, Req> Service<Req> for Counting<'_, S> {
 }
 
 /// Calls its service, but errs where it is asked whether it is ready.
-#[derive(Drop)]
+#[derive(Clone, Copy, Drop)]
 pub(crate) struct Unready<S> {
     pub(crate) service: S,
 }
