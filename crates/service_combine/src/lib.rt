@@ -14,6 +14,8 @@ mod apply_wrap;
 mod both;
 mod chain;
 mod chain_factory;
+#[cfg(test)]
+mod clone_tests;
 mod config_map;
 mod config_stage;
 #[cfg(test)]

@@ -1,0 +1,116 @@
+//! Copies answer as their originals.
+use crate::{
+    Apply, ServiceExt, ServiceFactoryExt, apply_fn, map_config, pipeline, pipeline_factory,
+    unit_config,
+};
+use futures::task::Poll;
+use futures::test::MockTask;
+use service_core::{Service, ServiceFactory, fn_service, ok};
+use std::alloc::AllocError;
+use std::test::Fail;
+
+/// Whether the service answers the request so at once.
+fn gives<S>(task: &MockTask, service: &S, req: u32, wanted: u32) -> bool
+where
+    S: Service<u32, Response = u32, Error = AllocError>,
+    requires { S.can_call service.now }
+{
+    let mut future = service.call(req);
+    match task.poll(&mut future) {
+        Poll::Ready(Ok(answer)) => answer == wanted,
+        _ => false,
+    }
+}
+
+/// Whether the factory makes at once, of 3, a service that answers the request so at once.
+fn makes<F>(task: &MockTask, factory: &F, req: u32, wanted: u32) -> bool
+where
+    F: ServiceFactory<
+        u32,
+        Response = u32,
+        Error = AllocError,
+        Config = u32,
+        InitError: Drop,
+        Service: Drop,
+    >,
+    requires { F.can_make factory.now }
+{
+    let mut future = factory.new_service(3);
+    match task.poll(&mut future) {
+        Poll::Ready(Ok(service)) => gives(task, &service, req, wanted),
+        _ => false,
+    }
+}
+
+#[test]
+fn copies_of_changed_services_answer_as_their_originals(rt: HostRuntime) -> Result<(), Fail> {
+    let task = MockTask::new(&rt)?;
+    let alloc = rt.alloc();
+    let echo = fn_service(alloc, |n: u32| ok::<u32, AllocError>(n))?;
+    let mapped = ServiceExt::map(echo.clone()?, alloc, |n: u32| n / 2)?;
+    assert!(rt; gives(&task, &mapped.clone()?, 8, 4));
+    let erring = ServiceExt::map_err(echo.clone()?, alloc, |e: AllocError| e)?;
+    assert!(rt; gives(&task, &erring.clone()?, 8, 8));
+    let begun = pipeline(echo);
+    assert!(rt; gives(&task, &begun.clone()?, 8, 8));
+    Ok(())
+}
+
+#[test]
+fn a_copy_of_apply_answers_as_its_original(rt: HostRuntime) -> Result<(), Fail> {
+    let task = MockTask::new(&rt)?;
+    let alloc = rt.alloc();
+    let echo = fn_service(alloc, |n: u32| ok::<u32, AllocError>(n))?;
+    let wrapped: Apply<_, _, u32, u32, u32, AllocError> = apply_fn(
+        alloc,
+        echo,
+        |n: u32, _: &_| ok::<u32, AllocError>(n / 4),
+    )?;
+    assert!(rt; gives(&task, &wrapped.clone()?, 8, 2));
+    Ok(())
+}
+
+#[test]
+fn copies_of_changed_factories_make_what_their_originals_make(rt: HostRuntime) -> Result<(), Fail> {
+    let task = MockTask::new(&rt)?;
+    let alloc = rt.alloc();
+    let echo = fn_service(alloc, |n: u32| ok::<u32, AllocError>(n))?;
+    let mapped = ServiceFactoryExt::map(echo.clone()?, alloc, |n: u32| n / 2)?;
+    assert!(rt; makes(&task, &mapped.clone()?, 8, 4));
+    let erring = ServiceFactoryExt::map_err(echo.clone()?, alloc, |e: AllocError| e)?;
+    assert!(rt; makes(&task, &erring.clone()?, 8, 8));
+    let refused = echo.map_init_err(alloc, |e: AllocError| e)?;
+    assert!(rt; makes(&task, &refused.clone()?, 8, 8));
+    Ok(())
+}
+
+#[test]
+fn copies_over_configurations_make_what_their_originals_make(rt: HostRuntime) -> Result<(), Fail> {
+    let task = MockTask::new(&rt)?;
+    let alloc = rt.alloc();
+    let echo = fn_service(alloc, |n: u32| ok::<u32, AllocError>(n))?;
+    let configured = map_config(alloc, echo, |n: u32| n / 2)?;
+    assert!(rt; makes(&task, &configured.clone()?, 8, 8));
+    let plain = fn_service(alloc, |n: u32| ok::<u32, AllocError>(n))?;
+    let anything = unit_config(plain);
+    assert!(rt; makes(&task, &anything.clone()?, 8, 8));
+    Ok(())
+}
+
+#[test]
+fn copies_of_pairs_of_factories_make_what_their_originals_make(
+    rt: HostRuntime,
+) -> Result<(), Fail> {
+    let task = MockTask::new(&rt)?;
+    let alloc = rt.alloc();
+    let first = fn_service(alloc, |n: u32| ok::<u32, AllocError>(n / 2))?;
+    let second = fn_service(alloc, |n: u32| ok::<u32, AllocError>(n / 2))?;
+    let both = pipeline_factory(first.clone()?).and_then(alloc, second)?;
+    assert!(rt; makes(&task, &both.clone()?, 8, 2));
+    let fallback = fn_service(alloc, |n: Result<u32, AllocError>| {
+        ok::<u32, AllocError>(n.unwrap_or(7))
+    })?;
+    let either = pipeline_factory(first).then(alloc, fallback)?;
+    assert!(rt; makes(&task, &either.clone()?, 8, 4));
+    Ok(())
+}
