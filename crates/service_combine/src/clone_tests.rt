@@ -1,13 +1,47 @@
 //! Copies answer as their originals.
+ghost use Rattle.std.specs.Prelude.{◌≡◌, ◌/◌, Some, Ok};
+ghost use Rattle.std.proofs.Common.{rules};
+ghost use Rattle.futures.specs.declared.task.Poll.TheVariants.{Ready as PollReady};
+
 use crate::{
-    Apply, ServiceExt, ServiceFactoryExt, apply_fn, map_config, pipeline, pipeline_factory,
+    Apply, ApplyConfigService, ApplyConfigServiceFactory, ApplyFactory, FnServiceConfig,
+    FnServiceNoConfig, ServiceExt, ServiceFactoryExt, apply_cfg, apply_cfg_factory, apply_fn,
+    apply_fn_factory, fn_factory, fn_factory_with_config, map_config, pipeline, pipeline_factory,
     unit_config,
 };
-use futures::task::Poll;
+use futures::task::{Context, Poll};
 use futures::test::MockTask;
-use service_core::{Service, ServiceFactory, fn_service, ok};
+use service_core::{Ready, Service, ServiceFactory, fn_service, ok};
 use std::alloc::AllocError;
 use std::test::Fail;
+
+/// Answers half of each number.
+#[derive(Drop)]
+struct Halving;
+
+impl Service<u32> for Halving {
+    type Response = u32;
+
+    type Error = AllocError;
+
+    type Future = Ready<Result<u32, AllocError>>;
+
+    ghost may = { λ _ q r. r ≡ Ok (q / 2) };
+
+    ghost may_ready = { λ _ answer. answer ≡ PollReady (Ok tt) };
+
+    ghost may_begin = { λ _ q f. f.value ≡ Some (Ok (q / 2)) };
+
+    ghost begun_gives = { Prim.search rules };
+
+    fn poll_ready(&self, _cx: &mut Context<'_>) -> Poll<Result<(), AllocError>> {
+        Poll::Ready(Ok(()))
+    }
+
+    fn call(&self, req: u32) -> Ready<Result<u32, AllocError>> {
+        ok(req / 2)
+    }
+}
 
 /// Whether the service answers the request so at once.
 fn gives<S>(task: &MockTask, service: &S, req: u32, wanted: u32) -> bool
@@ -112,5 +146,61 @@ fn copies_of_pairs_of_factories_make_what_their_originals_make(
     })?;
     let either = pipeline_factory(first).then(alloc, fallback)?;
     assert!(rt; makes(&task, &either.clone()?, 8, 4));
+    Ok(())
+}
+
+#[test]
+fn copies_of_factories_of_closures_make_what_their_originals_make(
+    rt: HostRuntime,
+) -> Result<(), Fail> {
+    let task = MockTask::new(&rt)?;
+    let alloc = rt.alloc();
+    let plain: FnServiceNoConfig<_, u32, _, u32, _, _> = fn_factory(
+        alloc,
+        || ok::<Halving, AllocError>(Halving),
+    )?;
+    assert!(rt; makes(&task, &plain.clone()?, 8, 4));
+    let configured: FnServiceConfig<_, _, u32, _, u32, _> = fn_factory_with_config(
+        alloc,
+        |_: u32| ok::<Halving, AllocError>(Halving),
+    )?;
+    assert!(rt; makes(&task, &configured.clone()?, 8, 4));
+    Ok(())
+}
+
+#[test]
+fn copies_of_applied_factories_make_what_their_originals_make(rt: HostRuntime) -> Result<(), Fail> {
+    let task = MockTask::new(&rt)?;
+    let alloc = rt.alloc();
+    let lent: ApplyConfigService<_, u32, _, u32, _, _, _> = apply_cfg(
+        alloc,
+        Halving,
+        |_: u32, _: &Halving| ok::<Halving, AllocError>(Halving),
+    )?;
+    assert!(rt; makes(&task, &lent.clone()?, 8, 4));
+    let made = fn_factory(alloc, || ok::<Halving, AllocError>(Halving))?;
+    let awaited: ApplyConfigServiceFactory<_, u32, _, u32, _, _> = apply_cfg_factory(
+        alloc,
+        made,
+        |_: u32, _: &Halving| ok::<Halving, AllocError>(Halving),
+    )?;
+    assert!(rt; makes(&task, &awaited.clone()?, 8, 4));
+    Ok(())
+}
+
+#[test]
+fn a_copy_of_an_applied_factory_makes_what_its_original_makes(rt: HostRuntime) -> Result<(), Fail> {
+    let task = MockTask::new(&rt)?;
+    let alloc = rt.alloc();
+    let made: FnServiceNoConfig<_, u32, _, u32, _, _> = fn_factory(
+        alloc,
+        || ok::<Halving, AllocError>(Halving),
+    )?;
+    let wrapped: ApplyFactory<_, _, u32, u32, u32, AllocError> = apply_fn_factory(
+        alloc,
+        made,
+        |n: u32, _: &Halving| ok::<u32, AllocError>(n / 8),
+    )?;
+    assert!(rt; makes(&task, &wrapped.clone()?, 8, 1));
     Ok(())
 }

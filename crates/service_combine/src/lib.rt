@@ -25,6 +25,8 @@ mod factory_tests;
 mod fn_config;
 mod fn_no_config;
 mod half;
+#[cfg(test)]
+mod law_tests;
 pub mod laws;
 mod made_ready;
 mod making;
