@@ -42,6 +42,8 @@ mod map_service_future;
 mod one_stage;
 #[cfg(test)]
 mod pipeline_tests;
+#[cfg(test)]
+mod program_tests;
 mod service_ext;
 mod service_factory_ext;
 #[cfg(test)]
