@@ -9,7 +9,7 @@ use futures::task::{Doorbell, Queue};
 use http1_plain::{Request, Response};
 use service_combine::ServiceFactoryExt;
 use service_core::{Service, ServiceFactory, apply, fn_service};
-use std::alloc::{AllocGlobal, Global};
+use std::alloc::{AllocError, AllocGlobal, Global};
 use std::random::RandomSource;
 use std::sync::Wait;
 
@@ -57,6 +57,31 @@ where
     Ok(Outcome { shop, nobody })
 }
 
+// Shows the answers of a factory's service, and asks it for both.
+fn present<R: Wait, F>(rt: &R, queue: &Queue, alloc: Global, factory: F) -> Result<Outcome, Failure>
+where
+    F: ServiceFactory<
+        Request,
+        Config = (),
+        Response = Response,
+        Error = CorsFault,
+        InitError = CorsInitError,
+        Service: Drop,
+    >
+        + Drop,
+    requires { F.can_make factory }
+{
+    let chain = factory
+        .map_init_err(alloc, |error: CorsInitError| Failure::of_policy(error))?
+        .map(alloc, |response: Response| Shown::of(&response))?;
+    ask(rt, queue, alloc, chain)
+}
+
+// One origin is allowed.
+fn policy(alloc: Global) -> Result<Cors<NoRule>, AllocError> {
+    Cors::default(alloc).allowed_origin("https://shop.example")
+}
+
 /// Builds the chain, and asks it for both answers.
 pub fn answers<R>(rt: &R) -> Result<Outcome, Failure>
 where
@@ -67,9 +92,6 @@ where
         return Err(Failure::Memory);
     };
     let handler = fn_service(alloc, move |_: Request| page(alloc))?;
-    let policy: Cors<NoRule> = Cors::default(alloc).allowed_origin("https://shop.example")?;
-    let chain = apply(alloc, policy, handler)?
-        .map_init_err(alloc, |error: CorsInitError| Failure::of_policy(error))?
-        .map(alloc, |response: Response| Shown::of(&response))?;
-    ask(rt, &queue, alloc, chain)
+    let chain = apply(alloc, policy(alloc)?, handler)?;
+    present(rt, &queue, alloc, chain)
 }
