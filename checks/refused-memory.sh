@@ -4,7 +4,7 @@
 # of the program must end as the whole one, with status 7, or with a report that shows `memory`; a run of a test must
 # pass, or end for want of memory. It prints how many were refused, and fails where a run ends otherwise.
 #
-# It tries the program and the tests that `rt ci` has built, but one, which does not show what it got. A small library
+# It tries the program and the tests that `rt ci` has built, but two, which do not show what they got. A small library
 # that is loaded before the C library refuses the allocations, so a C compiler is wanted: with none on the machine
 # nothing is tried, and it says so.
 set -eu
@@ -92,10 +92,10 @@ def replay_is_allowed(whole):
 def shows_memory(text):
     return bool(re.search(r"(?m)^\d+\.\d+ memory |^end memory$", text))
 
-# A test ends by an error of memory, or stops where it compares what it has made of one: the outcome `Memory`, no status
-# where one was wanted, the status 7, or a text that says so.
+# A test ends by an error of memory, or stops where it compares what it has made of one: the outcome `Memory`, nothing
+# where something was wanted, no status where one was wanted, the status 7, or a text that says so.
 ERROR = re.compile(r"(?m)^error: .*(?:Memory|Alloc)|: Memory$")
-COMPARED = re.compile(r"(?m)^ *left: (Some\(Memory\)|7|0(?=\n *right: 20[04]$)|\[[0-9, ]+\])$")
+COMPARED = re.compile(r"(?m)^ *left: (\S*\(Memory\)+|None(?=\n *right: Some\()|7|0(?=\n *right: 20[04]$)|\[[0-9, ]+\])$")
 
 # One test has a sink of ten bytes.
 def says_memory(text):
@@ -107,8 +107,11 @@ def test_is_allowed(status, text):
     left = COMPARED.search(text)
     return bool(left) and (left[1][0] != "[" or says_memory(bytes(map(int, left[1][1:-1].split(","))).decode(errors="replace")))
 
-# It does not show what it got.
-SILENT = "server_program_tests tests::a_source_is_read_whole_or_not_at_all"
+# They do not show what they got.
+SILENT = (
+    "server_program_tests tests::a_source_is_read_whole_or_not_at_all",
+    "service_combine_tests clone_tests::copies_of_pairs_of_factories_make_what_their_originals_make",
+)
 
 runs = []
 program = f"{top}/crates/dongurapi/out/dongurapi"
@@ -121,7 +124,7 @@ for tests in sorted(glob.glob(f"{top}/crates/*/out/*_tests")):
     listed = subprocess.run([tests, "--list"], capture_output=True, text=True).stdout
     for name in re.findall(r"(?m)^(\S+): test$", listed):
         shown = f"{os.path.basename(tests)} {name}"
-        if shown != SILENT:
+        if shown not in SILENT:
             runs.append((shown, [tests, name], "/dev/null", test_is_allowed))
 
 with ThreadPoolExecutor(os.cpu_count()) as pool:
