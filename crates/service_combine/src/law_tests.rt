@@ -24,10 +24,11 @@ fn chains_answer_alike_however_they_are_bracketed(rt: HostRuntime) -> Result<(),
     let half = fn_service(alloc, |n: u32| ok::<u32, AllocError>(n / 2))?;
     let third = fn_service(alloc, |n: u32| ok::<u32, AllocError>(n / 3))?;
     let fifth = fn_service(alloc, |n: u32| ok::<u32, AllocError>(n / 5))?;
-    let front = AndThenService::new(alloc, &half, &third)?;
-    let left = AndThenService::new(alloc, front, &fifth)?;
-    let back = AndThenService::new(alloc, &third, &fifth)?;
-    let right = AndThenService::new(alloc, &half, back)?;
+    let (one, two, three) = (&half, &third, &fifth);
+    let front = AndThenService::new(alloc, one, two)?;
+    let left = AndThenService::new(alloc, front, three)?;
+    let back = AndThenService::new(alloc, two, three)?;
+    let right = AndThenService::new(alloc, one, back)?;
     and_then_associative(&left, &right);
     assert_eq!(rt; answer(&task, &left, 90), Poll::Ready(Ok(3)));
     assert_eq!(rt; answer(&task, &right, 90), Poll::Ready(Ok(3)));
@@ -39,9 +40,10 @@ fn two_maps_answer_as_one(rt: HostRuntime) -> Result<(), Fail> {
     let task = MockTask::new(&rt)?;
     let alloc = rt.alloc();
     let echo = fn_service(alloc, |n: u32| ok::<u32, AllocError>(n))?;
-    let same = Map::new(alloc, &echo, |n: u32| n)?;
+    let part = &echo;
+    let same = Map::new(alloc, part, |n: u32| n)?;
     let twice = Map::new(alloc, same, |n: u32| n / 2)?;
-    let once = Map::new(alloc, &echo, |n: u32| n / 2)?;
+    let once = Map::new(alloc, part, |n: u32| n / 2)?;
     map_composes(&twice, &once);
     assert_eq!(rt; answer(&task, &twice, 8), Poll::Ready(Ok(4)));
     assert_eq!(rt; answer(&task, &once, 8), Poll::Ready(Ok(4)));
