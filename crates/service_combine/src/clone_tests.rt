@@ -3,15 +3,17 @@ ghost use Rattle.std.specs.Prelude.{◌≡◌, ◌/◌, Some, Ok};
 ghost use Rattle.std.proofs.Common.{rules};
 ghost use Rattle.futures.specs.declared.task.Poll.TheVariants.{Ready as PollReady};
 
+use crate::test_factories::{Denial, Telling, served};
+use crate::test_services::answer;
 use crate::{
     Apply, ApplyConfigService, ApplyConfigServiceFactory, ApplyFactory, FnServiceConfig,
-    FnServiceNoConfig, ServiceExt, ServiceFactoryExt, apply_cfg, apply_cfg_factory, apply_fn,
-    apply_fn_factory, fn_factory, fn_factory_with_config, map_config, pipeline, pipeline_factory,
-    unit_config,
+    FnServiceNoConfig, MapConfig, ServiceExt, ServiceFactoryExt, apply_cfg, apply_cfg_factory,
+    apply_fn, apply_fn_factory, fn_factory, fn_factory_with_config, map_config, pipeline,
+    pipeline_factory, unit_config,
 };
 use futures::task::{Context, Poll};
 use futures::test::MockTask;
-use service_core::{Ready, Service, ServiceFactory, fn_service, ok};
+use service_core::{Ready, Service, fn_service, ok};
 use std::alloc::AllocError;
 use std::test::Fail;
 
@@ -43,50 +45,17 @@ impl Service<u32> for Halving {
     }
 }
 
-/// Whether the service answers the request so at once.
-fn gives<S>(task: &MockTask, service: &S, req: u32, wanted: u32) -> bool
-where
-    S: Service<u32, Response = u32, Error = AllocError>,
-    requires { S.can_call service.now }
-{
-    let mut future = service.call(req);
-    match task.poll(&mut future) {
-        Poll::Ready(Ok(answer)) => answer == wanted,
-        _ => false,
-    }
-}
-
-/// Whether the factory makes at once, of 3, a service that answers the request so at once.
-fn makes<F>(task: &MockTask, factory: &F, req: u32, wanted: u32) -> bool
-where
-    F: ServiceFactory<
-        u32,
-        Response = u32,
-        Error = AllocError,
-        Config = u32,
-        InitError: Drop,
-        Service: Drop,
-    >,
-    requires { F.can_make factory.now }
-{
-    let mut future = factory.new_service(3);
-    match task.poll(&mut future) {
-        Poll::Ready(Ok(service)) => gives(task, &service, req, wanted),
-        _ => false,
-    }
-}
-
 #[test]
 fn copies_of_changed_services_answer_as_their_originals(rt: HostRuntime) -> Result<(), Fail> {
     let task = MockTask::new(&rt)?;
     let alloc = rt.alloc();
     let echo = fn_service(alloc, |n: u32| ok::<u32, AllocError>(n))?;
     let mapped = ServiceExt::map(echo.clone()?, alloc, |n: u32| n / 2)?;
-    assert!(rt; gives(&task, &mapped.clone()?, 8, 4));
+    assert_eq!(rt; answer(&task, mapped.clone()?, 8), Poll::Ready(Ok(4)));
     let erring = ServiceExt::map_err(echo.clone()?, alloc, |e: AllocError| e)?;
-    assert!(rt; gives(&task, &erring.clone()?, 8, 8));
+    assert_eq!(rt; answer(&task, erring.clone()?, 8), Poll::Ready(Ok(8)));
     let begun = pipeline(echo);
-    assert!(rt; gives(&task, &begun.clone()?, 8, 8));
+    assert_eq!(rt; answer(&task, begun.clone()?, 8), Poll::Ready(Ok(8)));
     Ok(())
 }
 
@@ -100,7 +69,7 @@ fn a_copy_of_apply_answers_as_its_original(rt: HostRuntime) -> Result<(), Fail> 
         echo,
         |n: u32, _: &_| ok::<u32, AllocError>(n / 4),
     )?;
-    assert!(rt; gives(&task, &wrapped.clone()?, 8, 2));
+    assert_eq!(rt; answer(&task, wrapped.clone()?, 8), Poll::Ready(Ok(2)));
     Ok(())
 }
 
@@ -110,11 +79,11 @@ fn copies_of_changed_factories_make_what_their_originals_make(rt: HostRuntime) -
     let alloc = rt.alloc();
     let echo = fn_service(alloc, |n: u32| ok::<u32, AllocError>(n))?;
     let mapped = ServiceFactoryExt::map(echo.clone()?, alloc, |n: u32| n / 2)?;
-    assert!(rt; makes(&task, &mapped.clone()?, 8, 4));
+    assert_eq!(rt; served(&task, &mapped.clone()?, 3, 8), Some(Ok(4)));
     let erring = ServiceFactoryExt::map_err(echo.clone()?, alloc, |e: AllocError| e)?;
-    assert!(rt; makes(&task, &erring.clone()?, 8, 8));
+    assert_eq!(rt; served(&task, &erring.clone()?, 3, 8), Some(Ok(8)));
     let refused = echo.map_init_err(alloc, |e: AllocError| e)?;
-    assert!(rt; makes(&task, &refused.clone()?, 8, 8));
+    assert_eq!(rt; served(&task, &refused.clone()?, 3, 8), Some(Ok(8)));
     Ok(())
 }
 
@@ -122,12 +91,15 @@ fn copies_of_changed_factories_make_what_their_originals_make(rt: HostRuntime) -
 fn copies_over_configurations_make_what_their_originals_make(rt: HostRuntime) -> Result<(), Fail> {
     let task = MockTask::new(&rt)?;
     let alloc = rt.alloc();
-    let echo = fn_service(alloc, |n: u32| ok::<u32, AllocError>(n))?;
-    let configured = map_config(alloc, echo, |n: u32| n / 2)?;
-    assert!(rt; makes(&task, &configured.clone()?, 8, 8));
+    let telling: FnServiceConfig<_, _, u32, _, (), _> = fn_factory_with_config(
+        alloc,
+        |cfg: u32| ok::<_, Denial>(Telling { value: cfg }),
+    )?;
+    let configured: MapConfig<_, (), _, u32> = map_config(alloc, telling, |cfg: u32| cfg / 2)?;
+    assert_eq!(rt; served(&task, &configured.clone()?, 8, ()), Some(Ok(4)));
     let plain = fn_service(alloc, |n: u32| ok::<u32, AllocError>(n))?;
     let anything = unit_config(plain);
-    assert!(rt; makes(&task, &anything.clone()?, 8, 8));
+    assert_eq!(rt; served(&task, &anything.clone()?, 3, 8), Some(Ok(8)));
     Ok(())
 }
 
@@ -140,12 +112,12 @@ fn copies_of_pairs_of_factories_make_what_their_originals_make(
     let first = fn_service(alloc, |n: u32| ok::<u32, AllocError>(n / 2))?;
     let second = fn_service(alloc, |n: u32| ok::<u32, AllocError>(n / 2))?;
     let both = pipeline_factory(first.clone()?).and_then(alloc, second)?;
-    assert!(rt; makes(&task, &both.clone()?, 8, 2));
+    assert_eq!(rt; served(&task, &both.clone()?, 3, 8), Some(Ok(2)));
     let fallback = fn_service(alloc, |n: Result<u32, AllocError>| {
         ok::<u32, AllocError>(n.unwrap_or(7))
     })?;
     let either = pipeline_factory(first).then(alloc, fallback)?;
-    assert!(rt; makes(&task, &either.clone()?, 8, 4));
+    assert_eq!(rt; served(&task, &either.clone()?, 3, 8), Some(Ok(4)));
     Ok(())
 }
 
@@ -159,12 +131,12 @@ fn copies_of_factories_of_closures_make_what_their_originals_make(
         alloc,
         || ok::<Halving, AllocError>(Halving),
     )?;
-    assert!(rt; makes(&task, &plain.clone()?, 8, 4));
-    let configured: FnServiceConfig<_, _, u32, _, u32, _> = fn_factory_with_config(
+    assert_eq!(rt; served(&task, &plain.clone()?, 3, 8), Some(Ok(4)));
+    let configured: FnServiceConfig<_, _, u32, _, (), _> = fn_factory_with_config(
         alloc,
-        |_: u32| ok::<Halving, AllocError>(Halving),
+        |cfg: u32| ok::<_, Denial>(Telling { value: cfg }),
     )?;
-    assert!(rt; makes(&task, &configured.clone()?, 8, 4));
+    assert_eq!(rt; served(&task, &configured.clone()?, 3, ()), Some(Ok(3)));
     Ok(())
 }
 
@@ -177,14 +149,14 @@ fn copies_of_applied_factories_make_what_their_originals_make(rt: HostRuntime) -
         Halving,
         |_: u32, _: &Halving| ok::<Halving, AllocError>(Halving),
     )?;
-    assert!(rt; makes(&task, &lent.clone()?, 8, 4));
+    assert_eq!(rt; served(&task, &lent.clone()?, 3, 8), Some(Ok(4)));
     let made = fn_factory(alloc, || ok::<Halving, AllocError>(Halving))?;
     let awaited: ApplyConfigServiceFactory<_, u32, _, u32, _, _> = apply_cfg_factory(
         alloc,
         made,
         |_: u32, _: &Halving| ok::<Halving, AllocError>(Halving),
     )?;
-    assert!(rt; makes(&task, &awaited.clone()?, 8, 4));
+    assert_eq!(rt; served(&task, &awaited.clone()?, 3, 8), Some(Ok(4)));
     Ok(())
 }
 
@@ -201,6 +173,6 @@ fn a_copy_of_an_applied_factory_makes_what_its_original_makes(rt: HostRuntime) -
         made,
         |n: u32, _: &Halving| ok::<u32, AllocError>(n / 8),
     )?;
-    assert!(rt; makes(&task, &wrapped.clone()?, 8, 1));
+    assert_eq!(rt; served(&task, &wrapped.clone()?, 3, 8), Some(Ok(1)));
     Ok(())
 }

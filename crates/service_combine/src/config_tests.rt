@@ -2,10 +2,10 @@
 
 use crate::config_stage::ConfigStage;
 use crate::test_factories::{
-    Adding, Denial, Denying, Telling, answers_each_way, copies, copies_late, denied, denies,
-    making_waits, polls_of_making, readied, served,
+    Denial, Denying, Telling, answers_each_way, copies, copies_late, denied, denies, making_waits,
+    polls_of_making, readied, served,
 };
-use crate::test_services::{Awaking, Echo, Fault, Faulty, Word};
+use crate::test_services::{Adding, Awaking, Echo, Fault, Faulty, Word};
 use crate::{
     ApplyConfigService, ApplyConfigServiceFactory, ApplyConfigServiceFactoryResponse, ApplyFactory,
     FnServiceConfig, FnServiceNoConfig, MapConfig, UnitConfig, apply_cfg, apply_cfg_factory,
@@ -71,7 +71,7 @@ fn apply_cfg_makes_a_service_of_the_configuration(rt: HostRuntime) -> Result<(),
     let factory: ApplyConfigService<_, u32, _, u32, _, _, _> = apply_cfg(
         rt.alloc(),
         Echo,
-        |cfg: u32, _: &Echo| ok::<_, Denial>(Adding { more: cfg }),
+        |cfg: u32, _: &Echo| ok::<_, Denial>(Adding::by(cfg)),
     )?;
     assert_eq!(rt; served(&task, &factory, 3, 4), Some(Ok(7)));
     assert_eq!(rt; served(&task, &factory, 5, 4), Some(Ok(9)));
@@ -84,7 +84,7 @@ fn apply_cfg_factory_makes_a_service_of_the_configuration(rt: HostRuntime) -> Re
     let factory: ApplyConfigServiceFactory<_, u32, _, u32, _, _> = apply_cfg_factory(
         rt.alloc(),
         copies(Echo),
-        |cfg: u32, _: &Echo| ok::<_, Denial>(Adding { more: cfg }),
+        |cfg: u32, _: &Echo| ok::<_, Denial>(Adding::by(cfg)),
     )?;
     assert_eq!(rt; served(&task, &factory, 3, 4), Some(Ok(7)));
     assert_eq!(rt; polls_of_making(&task, &factory, 3), Some(1));
@@ -104,7 +104,7 @@ fn apply_cfg_factory_awaits_the_readiness_of_the_made_service(rt: HostRuntime) -
     let factory: ApplyConfigServiceFactory<_, u32, _, u32, _, _> = apply_cfg_factory(
         rt.alloc(),
         awaking,
-        |cfg: u32, _: &Awaking<Echo>| ok::<_, Denial>(Adding { more: cfg }),
+        |cfg: u32, _: &Awaking<Echo>| ok::<_, Denial>(Adding::by(cfg)),
     )?;
     assert!(rt; making_waits(&task, &factory, 3));
     assert_eq!(rt; polls_of_making(&task, &factory, 3), Some(3));
@@ -118,7 +118,7 @@ fn apply_cfg_factory_turns_an_error_of_readiness(rt: HostRuntime) -> Result<(), 
     let factory: ApplyConfigServiceFactory<_, u32, _, u32, _, _> = apply_cfg_factory(
         rt.alloc(),
         copies(faulty),
-        |cfg: u32, _: &Faulty| ok::<_, Denial>(Adding { more: cfg }),
+        |cfg: u32, _: &Faulty| ok::<_, Denial>(Adding::by(cfg)),
     )?;
     assert_eq!(rt; denied(&task, &factory, 3), Some(Denial::Unready));
     Ok(())
@@ -130,7 +130,7 @@ fn apply_cfg_factory_answers_an_error_of_the_making(rt: HostRuntime) -> Result<(
     let factory: ApplyConfigServiceFactory<_, u32, _, u32, _, _> = apply_cfg_factory(
         rt.alloc(),
         denies(Denial::First),
-        |cfg: u32, _: &Echo| ok::<_, Denial>(Adding { more: cfg }),
+        |cfg: u32, _: &Echo| ok::<_, Denial>(Adding::by(cfg)),
     )?;
     assert_eq!(rt; denied(&task, &factory, 3), Some(Denial::First));
     Ok(())
@@ -173,7 +173,7 @@ fn an_applied_making_that_waits_can_be_dropped(rt: HostRuntime) -> Result<(), Fa
     let configured: ApplyConfigServiceFactory<_, u32, _, u32, _, _> = apply_cfg_factory(
         rt.alloc(),
         copies_late(1, Echo),
-        |cfg: u32, _: &Echo| ok::<_, Denial>(Adding { more: cfg }),
+        |cfg: u32, _: &Echo| ok::<_, Denial>(Adding::by(cfg)),
     )?;
     assert!(rt; making_waits(&task, &configured, 3));
     assert_eq!(rt; polls_of_making(&task, &configured, 3), Some(2));
@@ -209,12 +209,12 @@ fn each_factory_of_a_closure_makes_the_same_each_way(rt: HostRuntime) -> Result<
     let alloc = rt.alloc();
     let configured: FnServiceConfig<_, _, u32, _, u32, _> = fn_factory_with_config(
         alloc,
-        |cfg: u32| ok::<_, Denial>(Adding { more: cfg }),
+        |cfg: u32| ok::<_, Denial>(Adding::by(cfg)),
     )?;
     assert_eq!(rt; answers_each_way(&task, alloc, configured)?, [Some(9); 3]);
     let plain: FnServiceNoConfig<_, u32, _, u32, _, _> = fn_factory(
         alloc,
-        || ok::<_, Denial>(Adding { more: 2 }),
+        || ok::<_, Denial>(Adding::by(2)),
     )?;
     assert_eq!(rt; answers_each_way(&task, alloc, plain)?, [Some(10); 3]);
     let mapped: MapConfig<_, u32, _, u32> = map_config(alloc, copies::<_, ()>(Echo), |_: u32| ())?;
@@ -237,13 +237,13 @@ fn each_applied_factory_makes_the_same_each_way(rt: HostRuntime) -> Result<(), F
     let configured: ApplyConfigService<_, u32, _, u32, _, _, _> = apply_cfg(
         alloc,
         Echo,
-        |cfg: u32, _: &Echo| ok::<_, Denial>(Adding { more: cfg }),
+        |cfg: u32, _: &Echo| ok::<_, Denial>(Adding::by(cfg)),
     )?;
     assert_eq!(rt; answers_each_way(&task, alloc, configured)?, [Some(9); 3]);
     let made: ApplyConfigServiceFactory<_, u32, _, u32, _, _> = apply_cfg_factory(
         alloc,
         copies(Echo),
-        |cfg: u32, _: &Echo| ok::<_, Denial>(Adding { more: cfg }),
+        |cfg: u32, _: &Echo| ok::<_, Denial>(Adding::by(cfg)),
     )?;
     assert_eq!(rt; answers_each_way(&task, alloc, made)?, [Some(9); 3]);
     Ok(())

@@ -1,21 +1,12 @@
 //! What the laws say of chains shows in their answers.
 use crate::laws::{and_then_associative, errors_pass, map_composes};
+use crate::test_services::answer;
 use crate::{AndThenService, Map, ThenService};
 use futures::task::Poll;
 use futures::test::MockTask;
-use service_core::{Service, err, fn_service, ok};
+use service_core::{err, fn_service, ok};
 use std::alloc::AllocError;
 use std::test::Fail;
-
-/// What the service answers at once.
-fn answer<S>(task: &MockTask, service: &S, req: u32) -> Poll<Result<S::Response, S::Error>>
-where
-    S: Service<u32>,
-    requires { S.can_call service.now }
-{
-    let mut future = service.call(req);
-    task.poll(&mut future)
-}
 
 #[test]
 fn chains_answer_alike_however_they_are_bracketed(rt: HostRuntime) -> Result<(), Fail> {

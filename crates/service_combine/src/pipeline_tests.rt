@@ -1,52 +1,19 @@
 //! What pipelines of services and of factories answer.
-ghost use Rattle.std.specs.Prelude.{◌≡◌};
-
 use crate::test_factories::{
     Denial, Mark, Single, Tags, copies, copies_late, denied, denies, making_waits, polls_of_making,
     readied, scored, served,
 };
 use crate::test_services::{
-    Asked, Counting, Echo, Failure, Fault, Faulty, Obeying, Summing, Tagging, Tally, Unready, Word,
+    Counting, Echo, Failure, Fault, Faulty, Obeying, Summing, Tagging, Tally, Unready, Word,
+    answer, readiness,
 };
 use crate::{Pipeline, PipelineFactory, pipeline, pipeline_factory};
 use futures::task::Poll;
 use futures::test::MockTask;
-use service_core::Service;
 use std::cell::Cell;
-use std::marker::PhantomData;
 use std::rc::Rc;
 use std::sync::Arc;
 use std::test::Fail;
-
-/// Calls a service through its bound, and polls the future once.
-fn answer<S: Service<Req> + Drop, Req>(
-    task: &MockTask,
-    service: S,
-    req: Req,
-) -> Poll<Result<S::Response, S::Error>>
-    requires { S.can_call service }
-{
-    let mut future = service.call(req);
-    task.poll(&mut future)
-}
-
-/// Asks a service through its bound whether it is ready.
-fn readiness<S: Service<Req> + Drop, Req>(task: &MockTask, service: S) -> Poll<Result<(), S::Error>>
-    requires { S.can_call service }
-{
-    let mut asked = Asked {
-        service,
-        request: PhantomData,
-    };
-    task.poll(&mut asked)
-}
-
-/// A service that counts what it is asked.
-fn counting<S>(service: S, tally: &Tally) -> Counting<'_, S>
-    ensures { result.service ≡ service }
-{
-    Counting { service, tally }
-}
 
 #[test]
 fn a_pipeline_maps_responses(rt: HostRuntime) -> Result<(), Fail> {
@@ -116,8 +83,11 @@ fn a_pipeline_of_factories_maps_what_comes_in_place_of_a_service(
 fn a_pipeline_hands_each_response_on(rt: HostRuntime) -> Result<(), Fail> {
     let task = MockTask::new(&rt)?;
     let (one, two) = (Tally::new(), Tally::new());
-    let chain: Pipeline<_, Word> = pipeline(counting(Echo, &one));
-    let both = chain.and_then(rt.alloc(), counting(Tagging { tag: Word::Srv2 }, &two))?;
+    let chain: Pipeline<_, Word> = pipeline(Counting::over(Echo, &one));
+    let both = chain.and_then(
+        rt.alloc(),
+        Counting::over(Tagging { tag: Word::Srv2 }, &two),
+    )?;
     assert_eq!(rt;
         answer(&task, &both, Word::Srv1),
         Poll::Ready(Ok((Word::Srv1, Word::Srv2)))
@@ -149,8 +119,11 @@ fn a_pipeline_of_factories_hands_each_response_on(rt: HostRuntime) -> Result<(),
 fn a_pipeline_hands_each_result_on(rt: HostRuntime) -> Result<(), Fail> {
     let task = MockTask::new(&rt)?;
     let (one, two) = (Tally::new(), Tally::new());
-    let chain: Pipeline<_, Result<Word, Fault>> = pipeline(counting(Obeying, &one));
-    let both = chain.then(rt.alloc(), counting(Unready { service: Summing }, &two))?;
+    let chain: Pipeline<_, Result<Word, Fault>> = pipeline(Counting::over(Obeying, &one));
+    let both = chain.then(
+        rt.alloc(),
+        Counting::over(Unready { service: Summing }, &two),
+    )?;
     assert_eq!(rt;
         answer(&task, &both, Ok(Word::Srv1)),
         Poll::Ready(Ok((Word::Srv1, Word::Fine)))

@@ -2,7 +2,9 @@
 ghost use Rattle.std.specs.Prelude.{⊤};
 ghost use Rattle.service_core.specs.Meaning.{GivesOnly};
 
-use crate::test_services::{Asked, Awaking, Counting, Echo, Failure, Fault, Faulty, Slow, Tally};
+use crate::test_services::{
+    Adding, Awaking, Counting, Echo, Failure, Fault, Faulty, Slow, Tally, answer, readiness,
+};
 use crate::{
     ServiceExt, ServiceFactoryExt, apply_cfg, apply_fn, fn_factory, fn_factory_with_config,
     map_config, pipeline, pipeline_factory,
@@ -15,32 +17,8 @@ use service_core::{
 };
 use std::alloc::{AllocError, Global};
 use std::cell::Cell;
-use std::marker::PhantomData;
 use std::rc::Rc;
 use std::test::Fail;
-
-/// Calls a service through its bound, and polls the future once.
-fn answer<S: Service<Req> + Drop, Req>(
-    task: &MockTask,
-    service: S,
-    req: Req,
-) -> Poll<Result<S::Response, S::Error>>
-    requires { S.can_call service }
-{
-    let mut future = service.call(req);
-    task.poll(&mut future)
-}
-
-/// Asks a service through its bound whether it is ready.
-fn readiness<S: Service<Req> + Drop, Req>(task: &MockTask, service: S) -> Poll<Result<(), S::Error>>
-    requires { S.can_call service }
-{
-    let mut asked = Asked {
-        service,
-        request: PhantomData,
-    };
-    task.poll(&mut asked)
-}
 
 /// Makes a service by its factory, and calls it once: its answer, or why there is no service.
 fn made_answer<F, Req>(
@@ -103,48 +81,6 @@ impl From<Fault> for Startup {
 
     fn from(_: Fault) -> Startup {
         Startup::Service
-    }
-}
-
-/// Adds a step to each number, and counts its calls.
-#[derive(Drop)]
-struct Adding {
-    step: u32,
-    calls: Cell<u32>,
-}
-
-impl Adding {
-    /// A service that adds the step.
-    fn by(step: u32) -> Adding {
-        Adding {
-            step,
-            calls: Cell::new(0),
-        }
-    }
-}
-
-impl Service<u32> for Adding {
-    type Response = u32;
-
-    type Error = Fault;
-
-    type Future = Ready<Result<u32, Fault>>;
-
-    ghost may = { λ _ _ _. ⊤ };
-
-    ghost may_ready = { λ _ _. ⊤ };
-
-    ghost may_begin = { λ _ _ f. GivesOnly ⟦<Ready<Result<u32, Fault>> as Future>⟧ f (λ _. ⊤) };
-
-    ghost begun_gives = { λ s q f h. h };
-
-    fn poll_ready(&self, _cx: &mut Context<'_>) -> Poll<Result<(), Fault>> {
-        Poll::Ready(Ok(()))
-    }
-
-    fn call(&self, req: u32) -> Ready<Result<u32, Fault>> {
-        self.calls.set(self.calls.get().saturating_add(1));
-        ok(req.wrapping_add(self.step))
     }
 }
 
@@ -449,14 +385,12 @@ fn step<'a>(
     limit: u32,
     fault: Fault,
 ) -> Result<Counting<'a, Limited>, AllocError> {
-    Ok(Counting {
-        service: Limited {
-            limit,
-            fault,
-            service: Rc::new(alloc, Adding::by(0))?,
-        },
-        tally,
-    })
+    let limited = Limited {
+        limit,
+        fault,
+        service: Rc::new(alloc, Adding::by(0))?,
+    };
+    Ok(Counting::over(limited, tally))
 }
 
 #[test]

@@ -1,16 +1,14 @@
 //! What the combinators of services answer.
-ghost use Rattle.std.specs.Prelude.{◌≡◌};
-ghost use Rattle.futures.specs.Poll.{IfReady};
-ghost use Rattle.futures.specs.declared.task.Poll.TheVariants.{Ready as PollReady};
+ghost use Rattle.std.specs.Prelude.{◌≡◌, IfOk};
 
 use crate::one_stage::OneStage;
 use crate::test_services::{
-    Asked, Awaking, Counting, Echo, Failure, Fault, Faulty, Obeying, Slow, Summing, Tagging, Tally,
-    Unready, Word,
+    Awaking, Counting, Echo, Failure, Fault, Faulty, Obeying, Slow, Summing, Tagging, Tally,
+    Unready, Word, answer, readiness,
 };
 use crate::two_stages::TwoStages;
 use crate::{
-    AndThenService, AndThenServiceResponse, Apply, MapErrFuture, MapFuture, ServiceExt,
+    AndThenService, AndThenServiceResponse, Apply, Map, MapErrFuture, MapFuture, ServiceExt,
     ThenService, ThenServiceResponse, apply_fn,
 };
 use futures::TryFutureExt;
@@ -19,23 +17,9 @@ use futures::test::MockTask;
 use service_core::{Ready, Service};
 use std::alloc::{AllocError, Global};
 use std::cell::Cell;
-use std::marker::PhantomData;
 use std::rc::Rc;
 use std::sync::Arc;
 use std::test::Fail;
-
-/// Calls a service through its bound, and polls the future once.
-fn answer<S: Service<Req> + Drop, Req>(
-    task: &MockTask,
-    service: S,
-    req: Req,
-) -> Poll<Result<S::Response, S::Error>>
-    requires { S.can_call service }
-    ensures { IfReady result (S.may service req) }
-{
-    let mut future = service.call(req);
-    task.poll(&mut future)
-}
 
 /// What a call answers at its third poll, if it is pending at the first two.
 fn third_answer<S: Service<Req, Response: Drop, Error: Drop> + Drop, Req>(
@@ -72,18 +56,6 @@ fn slow<S>(waits: u32, service: S) -> Slow<S>
     ensures { result.service ≡ service }
 {
     Slow { service, waits }
-}
-
-/// Asks a service through its bound whether it is ready.
-fn readiness<S: Service<Req> + Drop, Req>(task: &MockTask, service: S) -> Poll<Result<(), S::Error>>
-    requires { S.can_call service }
-    ensures { IfReady result (λ answer. S.may_ready service (PollReady answer)) }
-{
-    let mut asked = Asked {
-        service,
-        request: PhantomData,
-    };
-    task.poll(&mut asked)
 }
 
 #[test]
@@ -133,15 +105,8 @@ fn map_err_leaves_responses_as_they_are(rt: HostRuntime) -> Result<(), Fail> {
 fn and_then_hands_each_response_to_the_second(rt: HostRuntime) -> Result<(), Fail> {
     let task = MockTask::new(&rt)?;
     let (one, two) = (Tally::new(), Tally::new());
-    let first = Counting {
-        service: Echo,
-        tally: &one,
-    };
-    let second = Counting {
-        service: Tagging { tag: Word::Srv2 },
-        tally: &two,
-    };
-    let both = first.and_then(rt.alloc(), second)?;
+    let second = Counting::over(Tagging { tag: Word::Srv2 }, &two);
+    let both = Counting::over(Echo, &one).and_then(rt.alloc(), second)?;
     assert_eq!(rt;
         answer(&task, &both, Word::Srv1),
         Poll::Ready(Ok((Word::Srv1, Word::Srv2)))
@@ -155,10 +120,7 @@ fn and_then_hands_each_response_to_the_second(rt: HostRuntime) -> Result<(), Fai
 fn and_then_does_not_call_the_second_after_an_error(rt: HostRuntime) -> Result<(), Fail> {
     let task = MockTask::new(&rt)?;
     let tally = Tally::new();
-    let second = Counting {
-        service: Echo,
-        tally: &tally,
-    };
+    let second = Counting::over(Echo, &tally);
     let both = Faulty { fault: Fault::Bad }.and_then(rt.alloc(), second)?;
     assert_eq!(rt; answer(&task, &both, 7u32), Poll::Ready(Err(Fault::Bad)));
     assert_eq!(rt; tally.calls.get(), 0);
@@ -183,14 +145,8 @@ fn and_then_answers_an_error_of_the_second(rt: HostRuntime) -> Result<(), Fail> 
 fn then_hands_each_result_to_the_second(rt: HostRuntime) -> Result<(), Fail> {
     let task = MockTask::new(&rt)?;
     let (one, two) = (Tally::new(), Tally::new());
-    let first = Counting {
-        service: Obeying,
-        tally: &one,
-    };
-    let second = Counting {
-        service: Unready { service: Summing },
-        tally: &two,
-    };
+    let first = Counting::over(Obeying, &one);
+    let second = Counting::over(Unready { service: Summing }, &two);
     let both = ThenService::new(rt.alloc(), first, second)?;
     assert_eq!(rt;
         answer(&task, &both, Ok(Word::Srv1)),
@@ -280,10 +236,7 @@ fn then_waits_for_the_first_and_errs_with_the_second(rt: HostRuntime) -> Result<
 fn apply_fn_hands_its_closure_the_request_and_the_service(rt: HostRuntime) -> Result<(), Fail> {
     let task = MockTask::new(&rt)?;
     let tally = Tally::new();
-    let service = Counting {
-        service: Echo,
-        tally: &tally,
-    };
+    let service = Counting::over(Echo, &tally);
     let applied: Apply<_, _, Word, (), (Word, ()), Fault> = apply_fn(
         rt.alloc(),
         &service,
@@ -446,89 +399,52 @@ fn each_service_answers_the_same_each_way(rt: HostRuntime) -> Result<(), Fail> {
     Ok(())
 }
 
-/// Calls a service through three maps more.
-fn through_three<S>(
-    task: &MockTask,
-    alloc: Global,
-    service: S,
-    req: u32,
-) -> Result<Option<u32>, AllocError>
+/// A service under three maps.
+type Thrice<S, F> = Map<Map<Map<S, F, u32, u32>, F, u32, u32>, F, u32, u32>;
+
+/// Puts a service under the same map three times.
+fn thrice<S, F>(alloc: Global, service: S, f: F) -> Result<Thrice<S, F>, AllocError>
 where
     S: Service<u32, Response = u32, Error = Fault> + Drop,
-    requires { S.can_call service }
+    F: Fn(u32) -> u32 + Copy + Drop,
+    requires service { S.can_call service }
+    requires f { F.IsAlwaysCallable f }
+    ensures { IfOk result ⟦<Thrice<S, F> as Service<u32>>⟧.can_call }
 {
-    let mapped = service
-        .map(alloc, |x: u32| x.wrapping_mul(3).wrapping_add(1))?
-        .map(alloc, |x: u32| x.wrapping_mul(3).wrapping_add(1))?
-        .map(alloc, |x: u32| x.wrapping_mul(3).wrapping_add(1))?;
-    Ok(response(answer(task, mapped, req)))
+    service.map(alloc, f)?.map(alloc, f)?.map(alloc, f)
 }
 
-/// Calls a service through six maps more.
-fn through_six<S>(
+/// What a service answers under six maps more.
+fn through_six<S, F>(
     task: &MockTask,
     alloc: Global,
     service: S,
+    f: F,
     req: u32,
-) -> Result<Option<u32>, AllocError>
+) -> Result<Poll<Result<u32, Fault>>, AllocError>
 where
     S: Service<u32, Response = u32, Error = Fault> + Drop,
-    requires { S.can_call service }
+    F: Fn(u32) -> u32 + Copy + Drop,
+    requires service { S.can_call service }
+    requires f { F.IsAlwaysCallable f }
 {
-    let mapped = service
-        .map(alloc, |x: u32| x.wrapping_mul(3).wrapping_add(1))?
-        .map(alloc, |x: u32| x.wrapping_mul(3).wrapping_add(1))?
-        .map(alloc, |x: u32| x.wrapping_mul(3).wrapping_add(1))?;
-    through_three(task, alloc, mapped, req)
-}
-
-/// Calls a service through nine maps more.
-fn through_nine<S>(
-    task: &MockTask,
-    alloc: Global,
-    service: S,
-    req: u32,
-) -> Result<Option<u32>, AllocError>
-where
-    S: Service<u32, Response = u32, Error = Fault> + Drop,
-    requires { S.can_call service }
-{
-    let mapped = service
-        .map(alloc, |x: u32| x.wrapping_mul(3).wrapping_add(1))?
-        .map(alloc, |x: u32| x.wrapping_mul(3).wrapping_add(1))?
-        .map(alloc, |x: u32| x.wrapping_mul(3).wrapping_add(1))?;
-    through_six(task, alloc, mapped, req)
-}
-
-/// Calls a service through twelve maps.
-fn through_twelve<S>(
-    task: &MockTask,
-    alloc: Global,
-    service: S,
-    req: u32,
-) -> Result<Option<u32>, AllocError>
-where
-    S: Service<u32, Response = u32, Error = Fault> + Drop,
-    requires { S.can_call service }
-{
-    let mapped = service
-        .map(alloc, |x: u32| x.wrapping_mul(3).wrapping_add(1))?
-        .map(alloc, |x: u32| x.wrapping_mul(3).wrapping_add(1))?
-        .map(alloc, |x: u32| x.wrapping_mul(3).wrapping_add(1))?;
-    through_nine(task, alloc, mapped, req)
+    let six = thrice(alloc, thrice(alloc, service, f)?, f)?;
+    Ok(answer(task, six, req))
 }
 
 #[test]
 fn twelve_maps_answer_as_one(rt: HostRuntime) -> Result<(), Fail> {
     let task = MockTask::new(&rt)?;
     let alloc = rt.alloc();
+    let tripled = |x: u32| x.wrapping_mul(3).wrapping_add(1);
+    let six = thrice(alloc, thrice(alloc, Echo, tripled)?, tripled)?;
     let once = Echo.map(
         alloc,
         |x: u32| x.wrapping_mul(531_441).wrapping_add(265_720),
     )?;
     for req in [0, 1, 1000, u32::MAX] {
-        let through = through_twelve(&task, alloc, Echo, req)?;
-        assert_eq!(rt; through, response(answer(&task, &once, req)));
+        let twelve = through_six(&task, alloc, &six, tripled, req)?;
+        assert_eq!(rt; twelve, answer(&task, &once, req));
     }
     Ok(())
 }

@@ -1,5 +1,5 @@
 //! Factories, transforms and configurations of the tests.
-ghost use Rattle.std.specs.Prelude.{◌≡◌, ⊤, Some, IsSome, Ok, Err, IfOk};
+ghost use Rattle.std.specs.Prelude.{◌≡◌, ⊤, Some, Ok, Err, IfOk};
 ghost use Rattle.std.proofs.Common.{rules};
 ghost use Rattle.futures.specs.declared.task.Poll.TheVariants.{Ready as PollReady};
 
@@ -97,36 +97,6 @@ impl<T: Copy + Drop> Service<()> for Telling<T> {
 
     fn call(&self, _req: ()) -> Ready<Result<T, Fault>> {
         ok(self.value)
-    }
-}
-
-/// Answers each request with itself and some more.
-#[derive(Drop)]
-pub(crate) struct Adding {
-    pub(crate) more: u32,
-}
-
-impl Service<u32> for Adding {
-    type Response = u32;
-
-    type Error = Fault;
-
-    type Future = Ready<Result<u32, Fault>>;
-
-    ghost may = { λ _ _ _. ⊤ };
-
-    ghost may_ready = { λ _ answer. answer ≡ PollReady (Ok tt) };
-
-    ghost may_begin = { λ _ _ f. IsSome f.value };
-
-    ghost begun_gives = { Prim.search rules };
-
-    fn poll_ready(&self, _cx: &mut Context<'_>) -> Poll<Result<(), Fault>> {
-        Poll::Ready(Ok(()))
-    }
-
-    fn call(&self, req: u32) -> Ready<Result<u32, Fault>> {
-        ok(req.wrapping_add(self.more))
     }
 }
 

@@ -1,10 +1,12 @@
 //! Services of the tests.
-ghost use Rattle.std.specs.Prelude.{◌≡◌, ◌⊎◌, Some, IsSome, Ok, Err};
+ghost use Rattle.std.specs.Prelude.{◌≡◌, ◌⊎◌, ◌+◌, ◌%◌, ◌^◌, Some, Ok, Err};
 ghost use Rattle.std.proofs.Common.{rules};
+ghost use Rattle.futures.specs.Poll.{IfReady};
 ghost use Rattle.futures.specs.declared.task.Poll.TheVariants.{Ready as PollReady, Pending as PollPending};
 
 use futures::Future;
 use futures::task::{Context, Poll};
+use futures::test::MockTask;
 use service_core::{NoMemory, Ready, Service, err, ok, ready};
 use std::cell::Cell;
 use std::marker::PhantomData;
@@ -212,6 +214,50 @@ impl Service<Result<Word, Fault>> for Summing {
     }
 }
 
+/// Adds a step to each number, and counts its calls.
+#[derive(Drop)]
+pub(crate) struct Adding {
+    pub(crate) step: u32,
+    pub(crate) calls: Cell<u32>,
+}
+
+impl Adding {
+    /// A service that adds the step.
+    pub(crate) fn by(step: u32) -> Adding
+        ensures { result.step ≡ step }
+    {
+        Adding {
+            step,
+            calls: Cell::new(0),
+        }
+    }
+}
+
+impl Service<u32> for Adding {
+    type Response = u32;
+
+    type Error = Fault;
+
+    type Future = Ready<Result<u32, Fault>>;
+
+    ghost may = { λ s q r. r ≡ Ok ((q + s.step) % 2 ^ 32) };
+
+    ghost may_ready = { λ _ answer. answer ≡ PollReady (Ok tt) };
+
+    ghost may_begin = { λ s q f. f.value ≡ Some (Ok ((q + s.step) % 2 ^ 32)) };
+
+    ghost begun_gives = { Prim.search rules };
+
+    fn poll_ready(&self, _cx: &mut Context<'_>) -> Poll<Result<(), Fault>> {
+        Poll::Ready(Ok(()))
+    }
+
+    fn call(&self, req: u32) -> Ready<Result<u32, Fault>> {
+        self.calls.set(self.calls.get().saturating_add(1));
+        ok(req.wrapping_add(self.step))
+    }
+}
+
 /// How often a service was asked whether it is ready, and how often it was called.
 #[derive(Drop)]
 pub(crate) struct Tally {
@@ -233,6 +279,15 @@ impl Tally {
 pub(crate) struct Counting<'a, S> {
     pub(crate) service: S,
     pub(crate) tally: &'a Tally,
+}
+
+impl<'a, S> Counting<'a, S> {
+    /// A service that counts in `tally` what it is asked.
+    pub(crate) fn over(service: S, tally: &'a Tally) -> Counting<'a, S>
+        ensures { result.service ≡ service }
+    {
+        Counting { service, tally }
+    }
 }
 
 impl<S: Service<Req>, Req> Service<Req> for Counting<'_, S> {
@@ -415,4 +470,32 @@ impl<S: Service<Req> + Drop, Req> Future for Asked<S, Req> {
     fn poll(&mut self, cx: &mut Context<'_>) -> Poll<Result<(), S::Error>> {
         self.service.poll_ready(cx)
     }
+}
+
+/// What a service's future answers at its first poll.
+pub(crate) fn answer<S: Service<Req> + Drop, Req>(
+    task: &MockTask,
+    service: S,
+    req: Req,
+) -> Poll<Result<S::Response, S::Error>>
+    requires { S.can_call service }
+    ensures { IfReady result (S.may service req) }
+{
+    let mut future = service.call(req);
+    task.poll(&mut future)
+}
+
+/// What a service answers that is asked once whether it is ready.
+pub(crate) fn readiness<S: Service<Req> + Drop, Req>(
+    task: &MockTask,
+    service: S,
+) -> Poll<Result<(), S::Error>>
+    requires { S.can_call service }
+    ensures { IfReady result (λ answer. S.may_ready service (PollReady answer)) }
+{
+    let mut asked = Asked {
+        service,
+        request: PhantomData,
+    };
+    task.poll(&mut asked)
 }
