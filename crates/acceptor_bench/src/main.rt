@@ -5,22 +5,14 @@
 mod load;
 mod size;
 
+use command_line::{print, words_of};
 use load::carried_out;
-use size::{Size, words_of};
+use size::Size;
 use std::alloc::{AllocError, AllocGlobal};
-use std::io;
 use std::process::ExitCode;
 use std::rt::Env;
 
 const USAGE: &str = "usage: acceptor_bench WORKERS FREE TURNS PICKS";
-
-// Prints a line. The status is the one given, or that of a write that failed.
-fn print<R: Print>(rt: &R, text: &str, status: u8) -> u8 {
-    match println!(rt; "{text}") {
-        Ok(()) => status,
-        Err(_) => 6,
-    }
-}
 
 // Lets as many connections come and go as the words say, and prints what came of it.
 fn run<R>(rt: &R) -> Result<u8, AllocError>

@@ -3,10 +3,6 @@ ghost use Rattle.std.specs.Prelude.{◌≤◌, IfSome};
 ghost use Rattle.acceptor_bench.specs.Size.{IsSound};
 
 use server_core::MAX_WORKERS;
-use std::alloc::{AllocError, AllocGlobal};
-use std::env;
-use std::io::ErrorKind;
-use std::rt::Env;
 
 /// How much is measured.
 #[derive(Clone, Copy)]
@@ -39,20 +35,5 @@ impl Size {
             return None;
         }
         Some(size)
-    }
-}
-
-/// The words behind the program's name. Where they cannot be had, as where one is not UTF-8, there are none.
-pub fn words_of<R: Env + AllocGlobal>(rt: &R) -> Result<Vec<String>, AllocError> {
-    let mut words = Vec::new(rt.alloc());
-    match env::args(rt) {
-        Ok(args) => {
-            for word in args.skip(1) {
-                words.push(word)?;
-            }
-            Ok(words)
-        }
-        Err(error) if error.kind() == ErrorKind::OutOfMemory => Err(AllocError),
-        Err(_) => Ok(words),
     }
 }

@@ -10,19 +10,12 @@ mod shown;
 mod tests;
 
 use chain::answers;
+use command_line::print;
 use failure::Failure;
 use std::alloc::AllocGlobal;
 use std::process::ExitCode;
 use std::random::RandomSource;
 use std::sync::Wait;
-
-// Prints a line. The status is the one given, or that of a write that failed.
-fn print<R: Print>(rt: &R, text: &str, status: u8) -> u8 {
-    match println!(rt; "{text}") {
-        Ok(()) => status,
-        Err(_) => 6,
-    }
-}
 
 // Prints what came of each request.
 fn run<R>(rt: &R) -> Result<u8, Failure>

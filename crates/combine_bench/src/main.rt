@@ -5,25 +5,18 @@
 mod calling;
 mod depth;
 mod size;
+mod through;
 
 use calling::answered;
-use size::{Size, words_of};
+use command_line::{print, words_of};
+use size::Size;
 use std::alloc::{AllocError, AllocGlobal};
-use std::io;
 use std::process::ExitCode;
 use std::random::RandomSource;
 use std::rt::Env;
 use std::sync::Wait;
 
 const USAGE: &str = "usage: combine_bench 1|5|20 CALLS";
-
-// Prints a line. The status is the one given, or that of a write that failed.
-fn print<R: Print>(rt: &R, text: &str, status: u8) -> u8 {
-    match println!(rt; "{text}") {
-        Ok(()) => status,
-        Err(_) => 6,
-    }
-}
 
 // Makes as many calls as the words say, and prints what came of them.
 fn run<R>(rt: &R) -> Result<u8, AllocError>

@@ -1,9 +1,5 @@
 //! The words of the command line.
 use crate::depth::Depth;
-use std::alloc::{AllocError, AllocGlobal};
-use std::env;
-use std::io::ErrorKind;
-use std::rt::Env;
 
 /// How much is measured.
 #[derive(Clone, Copy)]
@@ -25,20 +21,5 @@ impl Size {
             Ok(calls) => Some(Size { depth, calls }),
             Err(_) => None,
         }
-    }
-}
-
-/// The words behind the program's name. Where they cannot be had, as where one is not UTF-8, there are none.
-pub fn words_of<R: Env + AllocGlobal>(rt: &R) -> Result<Vec<String>, AllocError> {
-    let mut words = Vec::new(rt.alloc());
-    match env::args(rt) {
-        Ok(args) => {
-            for word in args.skip(1) {
-                words.push(word)?;
-            }
-            Ok(words)
-        }
-        Err(error) if error.kind() == ErrorKind::OutOfMemory => Err(AllocError),
-        Err(_) => Ok(words),
     }
 }

@@ -12,6 +12,7 @@ use std::alloc::{AllocError, Global};
 /// It answers each request with `Hello world!` as plain text.
 #[derive(Drop)]
 pub struct Hello {
+    /// Where its answers take memory.
     pub alloc: Global,
 }
 
