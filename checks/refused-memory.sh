@@ -16,46 +16,7 @@ fi
 work=$(mktemp -d)
 trap 'rm -rf "$work"' EXIT
 
-# The allocation that REFUSE counts down to is refused, and the file REFUSED shows that it came.
-cat > "$work/refuse.c" <<'C'
-#include <errno.h>
-#include <fcntl.h>
-#include <stddef.h>
-#include <stdlib.h>
-#include <unistd.h>
-
-extern void *__libc_malloc(size_t);
-extern void *__libc_calloc(size_t, size_t);
-extern void *__libc_realloc(void *, size_t);
-extern void *__libc_memalign(size_t, size_t);
-
-static long left = -1;
-
-static int refused(void) {
-    if (left < 0)
-        left = atol(getenv("REFUSE"));
-    if (left == 0 || --left != 0)
-        return 0;
-    close(open(getenv("REFUSED"), O_CREAT | O_WRONLY, 0600));
-    errno = ENOMEM;
-    return 1;
-}
-
-void *malloc(size_t size) { return refused() ? NULL : __libc_malloc(size); }
-void *calloc(size_t count, size_t size) { return refused() ? NULL : __libc_calloc(count, size); }
-void *realloc(void *old, size_t size) { return refused() ? NULL : __libc_realloc(old, size); }
-void *memalign(size_t align, size_t size) { return refused() ? NULL : __libc_memalign(align, size); }
-void *aligned_alloc(size_t align, size_t size) { return memalign(align, size); }
-
-int posix_memalign(void **out, size_t align, size_t size) {
-    void *got = memalign(align, size);
-    if (!got)
-        return ENOMEM;
-    *out = got;
-    return 0;
-}
-C
-cc -O1 -fPIC -shared -o "$work/refuse.so" "$work/refuse.c"
+cc -O1 -fPIC -shared -o "$work/allocations.so" "$top/checks/allocations.c"
 
 python3 - "$top" "$work" <<'PY'
 import glob, os, re, subprocess, sys
@@ -65,7 +26,7 @@ MOST = 500
 
 # How a run ends whose nth allocation is refused, and whether there was one.
 def ended(command, given, n, mark):
-    refuses = dict(os.environ, REFUSE=str(n), REFUSED=mark, LD_PRELOAD=f"{work}/refuse.so")
+    refuses = dict(os.environ, REFUSE=str(n), REFUSED=mark, LD_PRELOAD=f"{work}/allocations.so")
     with open(given, "rb") as stdin:
         run = subprocess.run(command, stdin=stdin, capture_output=True, env=refuses, timeout=60)
     came = os.path.exists(mark)

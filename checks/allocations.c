@@ -1,0 +1,54 @@
+/* Loaded before the C library (LD_PRELOAD), it counts the allocations of a program, and refuses one of them:
+   REFUSE=N       the Nth allocation finds no memory, and then the file that REFUSED names is there;
+   COUNTED=FILE   the number of allocations stands in that file when the program has ended. */
+#include <errno.h>
+#include <fcntl.h>
+#include <stddef.h>
+#include <stdio.h>
+#include <stdlib.h>
+#include <unistd.h>
+
+extern void *__libc_malloc(size_t);
+extern void *__libc_calloc(size_t, size_t);
+extern void *__libc_realloc(void *, size_t);
+extern void *__libc_memalign(size_t, size_t);
+
+static unsigned long count;
+static unsigned long refuse;
+
+/* Counts an allocation. Whether it is the one to refuse. */
+static int is_refused(void) {
+    const char *wanted = count == 0 ? getenv("REFUSE") : NULL;
+    if (wanted)
+        refuse = strtoul(wanted, NULL, 10);
+    if (++count != refuse)
+        return 0;
+    const char *shown = getenv("REFUSED");
+    if (shown)
+        close(open(shown, O_CREAT | O_WRONLY, 0600));
+    errno = ENOMEM;
+    return 1;
+}
+
+void *malloc(size_t size) { return is_refused() ? NULL : __libc_malloc(size); }
+void *calloc(size_t n, size_t size) { return is_refused() ? NULL : __libc_calloc(n, size); }
+void *realloc(void *old, size_t size) { return is_refused() ? NULL : __libc_realloc(old, size); }
+void *memalign(size_t align, size_t size) { return is_refused() ? NULL : __libc_memalign(align, size); }
+void *aligned_alloc(size_t align, size_t size) { return memalign(align, size); }
+
+int posix_memalign(void **out, size_t align, size_t size) {
+    void *got = memalign(align, size);
+    if (!got)
+        return ENOMEM;
+    *out = got;
+    return 0;
+}
+
+__attribute__((destructor)) static void tell(void) {
+    const char *counted = getenv("COUNTED");
+    int file = counted ? open(counted, O_CREAT | O_TRUNC | O_WRONLY, 0600) : -1;
+    if (file < 0)
+        return;
+    dprintf(file, "%lu\n", count);
+    close(file);
+}
