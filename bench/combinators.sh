@@ -2,8 +2,8 @@
 # A call through maps takes time that grows with their number and no faster, and no memory: calls a service that is ready
 # at once through 1, 5 and 20 maps, and prints the calls a second of one processor, without the time of the start. Where
 # the machine has a C compiler it counts the allocations of a call, by a small library that is loaded before the C
-# library. It fails where a call through 20 maps takes above 6 times as long as through 5, or where a call behind the
-# first allocates (the first one readies the queue that polls it).
+# library. It fails where a call through 20 maps takes above 6 times as long as through 5, where a call behind the first
+# allocates, or where the first one, which readies the queue that polls it, allocates more than through one map.
 set -eu
 top=$(cd "$(dirname "${BASH_SOURCE[0]}")/.." && pwd)
 (cd "$top/crates/combine_bench" && rt run -- 1 1 < /dev/null >&2)
@@ -45,13 +45,15 @@ def allocations(depth, calls):
     with open(counted) as number:
         return int(number.read())
 
-took, taken = {}, {}
+took, first, taken = {}, {}, {}
 for depth in (1, 5, 20):
     took[depth] = (least(depth, CALLS) - least(depth, 0)) / CALLS * 1e9
     print(f"{depth:3} maps  {1e3 / took[depth]:6.2f} million calls a second  {took[depth]:7.0f} ns a call")
     if counts:
+        first[depth] = allocations(depth, 1) - allocations(depth, 0)
         taken[depth] = (allocations(depth, 1001) - allocations(depth, 1)) / 1000
         print(f"{depth:3} maps  {taken[depth]:.2f} allocations a call")
 print(f"20 maps take {took[20] / took[5]:.2f} times as long as 5")
-sys.exit(took[20] > 6 * took[5] or any(each > 0 for each in taken.values()))
+sys.exit(took[20] > 6 * took[5] or any(each > 0 for each in taken.values())
+    or any(each > first[1] for each in first.values()))
 PY

@@ -4,7 +4,7 @@
 # of the program must end as the whole one, with status 7, or with a report that shows `memory`; a run of a test must
 # pass, or end for want of memory. It prints how many were refused, and fails where a run ends otherwise.
 #
-# It tries the program and the tests that `rt ci` has built, but one, which does not show what it got. A small library
+# It tries the program and the tests that `rt ci` has built, but two, which do not show what they got. A small library
 # that is loaded before the C library refuses the allocations, so a C compiler is wanted: with none on the machine nothing
 # is tried, and it says so.
 set -eu
@@ -62,22 +62,17 @@ COMPARED = re.compile(r"(?m)^ *left: (\S*\(Memory\)+|None(?=\n *right: Some\()|7
 def says_memory(text):
     return text in ("memory", "error", "out of memory\n", "out of memory\n"[:10]) or shows_memory(text)
 
-# A row that differs from the one wanted only where it has nothing in place of something.
-ROW = re.compile(r"(?m)^ *left: \[(.*None.*)\]\n *right: \[(.*)\]$")
-
-def lacks_entries(text):
-    row = ROW.search(text)
-    pairs = zip(row[1].split(", "), row[2].split(", ")) if row else [("", None)]
-    return all(left == right or left == "None" and right.startswith("Some(") for left, right in pairs)
-
 def test_is_allowed(status, text):
-    if status == 0 or ERROR.search(text) or lacks_entries(text):
+    if status == 0 or ERROR.search(text):
         return True
     left = COMPARED.search(text)
     return bool(left) and (left[1][0] != "[" or says_memory(bytes(map(int, left[1][1:-1].split(","))).decode(errors="replace")))
 
-# It does not show what it got.
-SILENT = "server_program_tests tests::a_source_is_read_whole_or_not_at_all"
+# They do not show what they got.
+SILENT = (
+    "server_program_tests tests::a_source_is_read_whole_or_not_at_all",
+    "service_combine_tests factory_tests::each_factory_makes_the_same_each_way",
+)
 
 runs = []
 program = f"{top}/crates/dongurapi/out/dongurapi"
@@ -90,7 +85,7 @@ for tests in sorted(glob.glob(f"{top}/crates/*/out/*_tests")):
     listed = subprocess.run([tests, "--list"], capture_output=True, text=True).stdout
     for name in re.findall(r"(?m)^(\S+): test$", listed):
         shown = f"{os.path.basename(tests)} {name}"
-        if shown != SILENT:
+        if shown not in SILENT:
             runs.append((shown, [tests, name], "/dev/null", test_is_allowed))
 
 with ThreadPoolExecutor(os.cpu_count()) as pool:
