@@ -1,0 +1,102 @@
+#!/usr/bin/env bash
+# What the gate costs from nothing: runs `rt ci --anew`, and prints for each crate the processor minutes of its proof, of
+# its tests, of the check that its must-fail edits begin with and of the edits themselves, and the most memory of a check;
+# then the sums, the longest chain (how long the gate takes on as many processors as it can use) and the crates above
+# their budget: a proof 3 minutes, tests 1.5, edits with the check that they begin with 5. It ends with the gate's status.
+# Words behind it go to `rt ci`, as names of crates: `bench/gate.sh server_core`. Nothing else should run meanwhile.
+set -eu
+top=$(cd "$(dirname "${BASH_SOURCE[0]}")/.." && pwd)
+work=$(mktemp -d)
+trap 'rm -rf "$work"' EXIT
+cd "$top"
+
+# Stands for the prover: runs it, and notes what the run took.
+cat > "$work/prover" <<'PY'
+#!/usr/bin/env python3
+import json, os, resource, signal, subprocess, sys
+status = subprocess.call([os.environ["GATE_PROVER"], *sys.argv[1:]])
+used = resource.getrusage(resource.RUSAGE_CHILDREN)
+row = {"in": os.getcwd(), "words": sys.argv[1:], "seconds": used.ru_utime + used.ru_stime, "kb": used.ru_maxrss}
+with open(os.environ["GATE_LOG"], "a") as log:
+    log.write(json.dumps(row) + "\n")
+if status < 0:
+    os.kill(os.getpid(), -status)
+sys.exit(status)
+PY
+chmod +x "$work/prover"
+
+cat > "$work/gate.py" <<'PY'
+import collections, importlib.machinery, importlib.util, json, os, shutil, sys, time
+sys.dont_write_bytecode = True
+work, names = sys.argv[1], sys.argv[2:]
+loader = importlib.machinery.SourceFileLoader("rt_command", os.path.realpath(shutil.which("rt")))
+rt = importlib.util.module_from_spec(importlib.util.spec_from_loader("rt_command", loader))
+loader.exec_module(rt)
+os.environ.update(GATE_PROVER=rt.rtlib.RATTLE, GATE_LOG=f"{work}/log")
+rt.rtlib.RATTLE = f"{work}/prover"
+began = time.time()
+status = rt.main(["ci", "--anew", *names])
+wall = time.time() - began
+
+KINDS = ("proof", "tests", "seed", "edits")
+BUDGET = {"proof": 3, "tests": 1.5, "edits with their seed": 5}
+spent = collections.defaultdict(lambda: dict.fromkeys(KINDS, 0.0))
+single, memory, tried = collections.defaultdict(list), collections.Counter(), collections.Counter()
+
+# What a run of the prover was for.
+def kind_of(crate, words, place):
+    if "--test" in words:
+        return "tests"
+    if not os.path.basename(place).startswith("rt-edit-"):
+        return "proof"
+    over = words[words.index("--incremental") + 1] if "--incremental" in words else ""
+    return "seed" if over.endswith("/seed") and not spent[crate]["seed"] else "edits"
+
+for row in map(json.loads, open(f"{work}/log") if os.path.exists(f"{work}/log") else ()):
+    words = row["words"]
+    if "--crate-name" not in words:
+        continue
+    crate = words[words.index("--crate-name") + 1]
+    kind = kind_of(crate, words, row["in"])
+    spent[crate][kind] += row["seconds"] / 60
+    memory[crate] = max(memory[crate], row["kb"])
+    if kind == "edits":
+        single[crate].append(row["seconds"] / 60)
+
+below = {}
+for line in open("crates.txt"):
+    name, found, needs = line.partition("#")[0].partition(":")
+    if found:
+        below[name.split()[0]] = needs.split()
+
+# When a crate's proof ends on as many processors as can be used, and all that is done for it.
+def proved(crate):
+    return spent[crate]["proof"] + started(crate)
+
+def started(crate):
+    return max([proved(it) for it in below[crate] if it in below] or [0])
+
+def ended(crate):
+    first = max(spent[crate][it] for it in ("proof", "tests", "seed"))
+    edits = sorted(single[crate])
+    # (the last one checks the crate as it stands once more)
+    return started(crate) + first + sum(edits[-1:]) + (edits[0] if len(edits) > 1 else 0)
+
+print(f"\n{'crate':24}{'proof':>8}{'tests':>8}{'seed':>8}{'edits':>8}{'all':>8}{'GB':>7}   processor minutes")
+for crate in [it for it in below if it in spent]:
+    row = spent[crate]
+    print(f"{crate:24}" + "".join(f"{row[it]:8.1f}" for it in KINDS) + f"{sum(row.values()):8.1f}{memory[crate] / 2**20:7.1f}")
+sums = {it: sum(row[it] for row in spent.values()) for it in KINDS}
+print(f"{'all':24}" + "".join(f"{sums[it]:8.1f}" for it in KINDS) + f"{sum(sums.values()):8.1f}{max(memory.values(), default=0) / 2**20:7.1f}")
+last = max(spent, key=ended, default=None)
+if last:
+    print(f"longest chain: {ended(last):.0f} minutes, to the end of {last}; this run took {wall / 60:.0f} minutes on {os.cpu_count()} processors")
+for crate in [it for it in below if it in spent]:
+    row = spent[crate]
+    found = {"proof": row["proof"], "tests": row["tests"], "edits with their seed": row["seed"] + row["edits"]}
+    for what, much in found.items():
+        if much > BUDGET[what]:
+            print(f"above its budget: {crate}, {what}: {much:.1f} of {BUDGET[what]} minutes")
+sys.exit(status)
+PY
+python3 -I "$work/gate.py" "$work" "$@"
