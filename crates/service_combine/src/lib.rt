@@ -9,21 +9,18 @@ mod apply_config;
 mod apply_config_factory;
 mod apply_config_factory_response;
 mod apply_factory;
+mod apply_service;
 mod apply_service_factory_response;
-mod apply_wrap;
 mod both;
-mod chain;
-mod chain_factory;
 #[cfg(test)]
 mod clone_tests;
-mod config_map;
 mod config_stage;
 #[cfg(test)]
 mod config_tests;
 #[cfg(test)]
 mod factory_tests;
-mod fn_config;
-mod fn_no_config;
+mod fn_service_config;
+mod fn_service_no_config;
 mod half;
 #[cfg(test)]
 mod law_tests;
@@ -31,6 +28,7 @@ pub mod laws;
 mod made_ready;
 mod making;
 mod map;
+mod map_config_factory;
 mod map_err;
 mod map_err_future;
 mod map_err_service_factory;
@@ -40,6 +38,9 @@ mod map_init_err;
 mod map_service_factory;
 mod map_service_future;
 mod one_stage;
+mod pipeline_functions;
+mod pipeline_service;
+mod pipeline_service_factory;
 #[cfg(test)]
 mod pipeline_tests;
 #[cfg(test)]
@@ -48,7 +49,6 @@ mod service_ext;
 mod service_factory_ext;
 #[cfg(test)]
 mod service_tests;
-mod start;
 #[cfg(test)]
 mod test_factories;
 #[cfg(test)]
@@ -60,8 +60,8 @@ mod then_response;
 mod transform_ext;
 mod transform_map_init_err;
 mod two_stages;
+mod unit_config_factory;
 mod when_ready;
-mod without_config;
 
 pub use and_then::AndThenService;
 pub use and_then_factory::AndThenServiceFactory;
@@ -71,14 +71,12 @@ pub use apply_config::{ApplyConfigService, apply_cfg};
 pub use apply_config_factory::{ApplyConfigServiceFactory, apply_cfg_factory};
 pub use apply_config_factory_response::ApplyConfigServiceFactoryResponse;
 pub use apply_factory::{ApplyFactory, apply_fn_factory};
+pub use apply_service::{Apply, apply_fn};
 pub use apply_service_factory_response::ApplyServiceFactoryResponse;
-pub use apply_wrap::{Apply, apply_fn};
-pub use chain::Pipeline;
-pub use chain_factory::PipelineFactory;
-pub use config_map::{MapConfig, map_config};
-pub use fn_config::{FnServiceConfig, fn_factory_with_config};
-pub use fn_no_config::{FnServiceNoConfig, fn_factory};
+pub use fn_service_config::{FnServiceConfig, fn_factory_with_config};
+pub use fn_service_no_config::{FnServiceNoConfig, fn_factory};
 pub use map::Map;
+pub use map_config_factory::{MapConfig, map_config};
 pub use map_err::MapErr;
 pub use map_err_future::{MapErrFuture, MapInitErrFuture, TransformMapInitErrFuture};
 pub use map_err_service_factory::MapErrServiceFactory;
@@ -87,13 +85,15 @@ pub use map_future::MapFuture;
 pub use map_init_err::MapInitErr;
 pub use map_service_factory::MapServiceFactory;
 pub use map_service_future::MapServiceFuture;
+pub use pipeline_functions::{pipeline, pipeline_factory};
+pub use pipeline_service::Pipeline;
+pub use pipeline_service_factory::PipelineFactory;
 pub use service_ext::ServiceExt;
 pub use service_factory_ext::ServiceFactoryExt;
-pub use start::{pipeline, pipeline_factory};
 pub use then::ThenService;
 pub use then_factory::ThenServiceFactory;
 pub use then_factory_response::ThenServiceFactoryResponse;
 pub use then_response::ThenServiceResponse;
 pub use transform_ext::TransformExt;
 pub use transform_map_init_err::TransformMapInitErr;
-pub use without_config::{UnitConfig, unit_config};
+pub use unit_config_factory::{UnitConfig, unit_config};

@@ -1,5 +1,5 @@
 use Rattle.service_combine.proofs.MeaningLemmas.{Makes-given}
-use Rattle.service_combine.proofs.fn_no_config.FnServiceNoConfigServiceFactory.new_service.Goals as goal
+use Rattle.service_combine.proofs.fn_service_no_config.FnServiceNoConfigServiceFactory.new_service.Goals as goal
 
 pub returns-clause-pollable : goal.returns-clause-pollable
 returns-clause-pollable g c = c.requires.1.pollable _ (rw c.deref.ensures at c.call.ensures)

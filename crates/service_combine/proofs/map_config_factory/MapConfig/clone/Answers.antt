@@ -1,5 +1,5 @@
 use Rattle.service_combine.proofs.SameLemmas.{Through-holds}
-use Rattle.service_combine.proofs.config_map.MapConfig.clone.Goals as goal
+use Rattle.service_combine.proofs.map_config_factory.MapConfig.clone.Goals as goal
 
 pub returns-clause-meaning : goal.returns-clause-meaning
 returns-clause-meaning g c =

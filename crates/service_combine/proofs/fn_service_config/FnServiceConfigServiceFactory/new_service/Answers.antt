@@ -1,5 +1,5 @@
 use Rattle.service_combine.proofs.MeaningLemmas.{Makes-given}
-use Rattle.service_combine.proofs.fn_config.FnServiceConfigServiceFactory.new_service.Goals as goal
+use Rattle.service_combine.proofs.fn_service_config.FnServiceConfigServiceFactory.new_service.Goals as goal
 
 pub returns-clause-pollable : goal.returns-clause-pollable
 returns-clause-pollable g c = (c.requires.1 _).pollable _ (rw c.deref.ensures at c.call.ensures)

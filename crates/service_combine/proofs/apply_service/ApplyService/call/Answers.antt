@@ -1,6 +1,6 @@
 use Rattle.std.proofs.Common.{refl}
 use Rattle.service_combine.specs.Applying.{Answers}
-use Rattle.service_combine.proofs.apply_wrap.ApplyService.call.Goals as goal
+use Rattle.service_combine.proofs.apply_service.ApplyService.call.Goals as goal
 
 pub returns : goal.returns
 returns g c =

@@ -1,4 +1,4 @@
-use Rattle.service_combine.proofs.without_config.UnitConfig.clone.Goals as goal
+use Rattle.service_combine.proofs.unit_config_factory.UnitConfig.clone.Goals as goal
 
 pub returns-clause-meaning : goal.returns-clause-meaning
 returns-clause-meaning g c = λ same. record {
