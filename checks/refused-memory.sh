@@ -1,12 +1,12 @@
 #!/usr/bin/env bash
-# Every refused allocation ends as want of memory. Replays each example and runs each test with its first allocation
-# refused, then with its second one, and so on, until a run makes so few that none is refused, at most 500 times. A run
-# of the program must end as the whole one, with status 7, or with a report that shows `memory`; a run of a test must
-# pass, or end for want of memory. It prints how many were refused, and fails where a run ends otherwise.
+# Every refused allocation ends as want of memory. Replays each example and each script of `checks/cases`, and runs each
+# test, with its first allocation refused, then with its second one, and so on, until a run makes so few that none is
+# refused, at most 500 times. A run of the program must end as the whole one, with status 7, or with a report that shows
+# `memory`; a run of a test must pass, or end for want of memory. It prints how many were refused, and fails where a run
+# ends otherwise.
 #
-# It tries the program and the tests that `rt ci` has built, but two, which do not show what they got. A small library
-# that is loaded before the C library refuses the allocations, so a C compiler is wanted: with none on the machine nothing
-# is tried, and it says so.
+# It tries the program and the tests that `rt ci` has built. A small library that is loaded before the C library refuses
+# the allocations, so a C compiler is wanted: with none on the machine nothing is tried, and it says so.
 set -eu
 top=$(cd "$(dirname "${BASH_SOURCE[0]}")/.." && pwd)
 if ! command -v cc > /dev/null; then
@@ -76,11 +76,12 @@ SILENT = (
 
 runs = []
 program = f"{top}/crates/dongurapi/out/dongurapi"
-for script in sorted(glob.glob(f"{top}/examples/*.script")) if os.path.exists(program) else []:
+scripts = sorted(glob.glob(f"{top}/examples/*.script") + glob.glob(f"{top}/checks/cases/*.script"))
+for script in scripts if os.path.exists(program) else []:
     with open(script, "rb") as stdin:
         whole = subprocess.run([program, "replay"], stdin=stdin, capture_output=True)
     allowed = replay_is_allowed((whole.returncode, whole.stdout.decode()))
-    runs.append((os.path.basename(script), [program, "replay"], script, allowed))
+    runs.append((os.path.relpath(script, top), [program, "replay"], script, allowed))
 for tests in sorted(glob.glob(f"{top}/crates/*/out/*_tests")):
     listed = subprocess.run([tests, "--list"], capture_output=True, text=True).stdout
     for name in re.findall(r"(?m)^(\S+): test$", listed):
