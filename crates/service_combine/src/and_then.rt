@@ -100,9 +100,7 @@ where
                     parts,
                 },
             },
-            Err(_) => AndThenServiceResponse {
-                state: TwoStages::Refused,
-            },
+            Err(_) => AndThenServiceResponse::refused(),
         }
     }
 }

@@ -118,10 +118,7 @@ where
                 },
                 alloc: self.alloc,
             },
-            Err(_) => AndThenServiceFactoryResponse {
-                making: Both::Refused,
-                alloc: self.alloc,
-            },
+            Err(_) => AndThenServiceFactoryResponse::refused(self.alloc),
         }
     }
 }

@@ -1,9 +1,10 @@
-ghost use Rattle.std.specs.Prelude.{⊤, MatchResult};
+ghost use Rattle.std.specs.Prelude.{◌≡◌, ⊤, MatchResult};
 ghost use Rattle.std.specs.Arc.{arc_value};
 ghost use Rattle.futures.specs.Poll.{IfReady, OnPending};
 ghost use Rattle.service_core.specs.Polls.{Polls};
 ghost use Rattle.service_combine.specs.Making.{MadeOr, WithPart};
 ghost use Rattle.service_combine.specs.Pairing.{BothWaited, PairErrs};
+ghost use Rattle.service_combine.specs.declared.both.Both.TheVariants.{Refused};
 
 use crate::AndThenService;
 use crate::both::Both;
@@ -22,6 +23,22 @@ where
 {
     pub(crate) making: Both<A::Future, B::Future, A::Service, B::Service>,
     pub(crate) alloc: Global,
+}
+
+impl<A, B, Req> AndThenServiceFactoryResponse<A, B, Req>
+where
+    A: ServiceFactory<Req>,
+    B: ServiceFactory<A::Response, Config = A::Config, Error = A::Error, InitError = A::InitError>,
+{
+    /// The future where the parts could not be shared: it gives want of memory.
+    pub fn refused(alloc: Global) -> AndThenServiceFactoryResponse<A, B, Req>
+        ensures { result.making ≡ Refused }
+    {
+        AndThenServiceFactoryResponse {
+            making: Both::Refused,
+            alloc,
+        }
+    }
 }
 
 impl<A, B, Req> Future for AndThenServiceFactoryResponse<A, B, Req>

@@ -21,6 +21,21 @@ where
     pub(crate) state: TwoStages<A::Future, B::Future, (A, B)>,
 }
 
+impl<A, B, Req> AndThenServiceResponse<A, B, Req>
+where
+    A: Service<Req>,
+    B: Service<A::Response, Error = A::Error>,
+{
+    /// The future where the parts could not be shared: it gives want of memory.
+    pub fn refused() -> AndThenServiceResponse<A, B, Req>
+        ensures { result.state ≡ Refused }
+    {
+        AndThenServiceResponse {
+            state: TwoStages::Refused,
+        }
+    }
+}
+
 impl<A, B, Req> Future for AndThenServiceResponse<A, B, Req>
 where
     A: Service<Req, Error: NoMemory> + Drop,

@@ -137,10 +137,7 @@ where
                 },
                 made: PhantomData,
             },
-            Err(_) => ApplyConfigServiceFactoryResponse {
-                state: ConfigStage::Refused,
-                made: PhantomData,
-            },
+            Err(_) => ApplyConfigServiceFactoryResponse::refused(),
         }
     }
 }

@@ -25,6 +25,21 @@ where
     pub(crate) made: PhantomData<S>,
 }
 
+impl<SF, Req, F, Cfg, Fut, S> ApplyConfigServiceFactoryResponse<SF, Req, F, Cfg, Fut, S>
+where
+    SF: ServiceFactory<Req>,
+{
+    /// The future where the parts could not be shared: it gives want of memory.
+    pub fn refused() -> ApplyConfigServiceFactoryResponse<SF, Req, F, Cfg, Fut, S>
+        ensures { result.state ≡ Refused }
+    {
+        ApplyConfigServiceFactoryResponse {
+            state: ConfigStage::Refused,
+            made: PhantomData,
+        }
+    }
+}
+
 impl<SF, Req, F, Cfg, Fut, S> Future for ApplyConfigServiceFactoryResponse<SF, Req, F, Cfg, Fut, S>
 where
     Req: Drop,

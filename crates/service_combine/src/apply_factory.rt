@@ -137,10 +137,7 @@ where
                 making: Making::of(self.factory.new_service(cfg), f),
                 types: PhantomData,
             },
-            Err(_) => ApplyServiceFactoryResponse {
-                making: Making::refused(),
-                types: PhantomData,
-            },
+            Err(_) => ApplyServiceFactoryResponse::refused(),
         }
     }
 }

@@ -1,8 +1,9 @@
-ghost use Rattle.std.specs.Prelude.{⊤};
+ghost use Rattle.std.specs.Prelude.{◌≡◌, ⊤};
 ghost use Rattle.futures.specs.Poll.{OnPending};
 ghost use Rattle.service_core.specs.Polls.{Polls};
 ghost use Rattle.service_combine.specs.Making.{WithPart};
 ghost use Rattle.service_combine.specs.Waits.{OneWaited};
+ghost use Rattle.service_combine.specs.declared.one_stage.OneStage.TheVariants.{Refused};
 
 use crate::Apply;
 use crate::making::Making;
@@ -16,6 +17,18 @@ use std::marker::PhantomData;
 pub struct ApplyServiceFactoryResponse<Fut, F, Req, In, Res, Err> {
     pub(crate) making: Making<Fut, F>,
     pub(crate) types: PhantomData<(Req, In, Res, Err)>,
+}
+
+impl<Fut, F, Req, In, Res, Err> ApplyServiceFactoryResponse<Fut, F, Req, In, Res, Err> {
+    /// The future where the closure could not be shared: it gives want of memory.
+    pub fn refused() -> ApplyServiceFactoryResponse<Fut, F, Req, In, Res, Err>
+        ensures { result.making.state ≡ Refused }
+    {
+        ApplyServiceFactoryResponse {
+            making: Making::refused(),
+            types: PhantomData,
+        }
+    }
 }
 
 impl<Fut, F, Req, In, Res, Err, S, I> Future

@@ -105,9 +105,7 @@ where
                     f,
                 },
             },
-            Err(_) => MapFuture {
-                state: OneStage::Refused,
-            },
+            Err(_) => MapFuture::refused(),
         }
     }
 }

@@ -17,6 +17,17 @@ pub struct MapErrFuture<Fut, F> {
     pub(crate) state: OneStage<Fut, F>,
 }
 
+impl<Fut, F> MapErrFuture<Fut, F> {
+    /// The future where the closure could not be shared: it gives want of memory.
+    pub fn refused() -> MapErrFuture<Fut, F>
+        ensures { result.state ≡ Refused }
+    {
+        MapErrFuture {
+            state: OneStage::Refused,
+        }
+    }
+}
+
 /// Future of a service of `MapInitErr`.
 pub type MapInitErrFuture<Fut, F> = MapErrFuture<Fut, F>;
 

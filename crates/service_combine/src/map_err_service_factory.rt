@@ -116,10 +116,7 @@ where
                 making: Making::of(self.factory.new_service(cfg), f),
                 types: PhantomData,
             },
-            Err(_) => MapErrServiceFuture {
-                making: Making::refused(),
-                types: PhantomData,
-            },
+            Err(_) => MapErrServiceFuture::refused(),
         }
     }
 }

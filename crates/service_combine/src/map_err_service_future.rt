@@ -1,8 +1,9 @@
-ghost use Rattle.std.specs.Prelude.{⊤};
+ghost use Rattle.std.specs.Prelude.{◌≡◌, ⊤};
 ghost use Rattle.futures.specs.Poll.{OnPending};
 ghost use Rattle.service_core.specs.Polls.{Polls};
 ghost use Rattle.service_combine.specs.Making.{WithPart};
 ghost use Rattle.service_combine.specs.Waits.{OneWaited};
+ghost use Rattle.service_combine.specs.declared.one_stage.OneStage.TheVariants.{Refused};
 
 use crate::MapErr;
 use crate::making::Making;
@@ -16,6 +17,18 @@ use std::marker::PhantomData;
 pub struct MapErrServiceFuture<Fut, F, Req, E> {
     pub(crate) making: Making<Fut, F>,
     pub(crate) types: PhantomData<(Req, E)>,
+}
+
+impl<Fut, F, Req, E> MapErrServiceFuture<Fut, F, Req, E> {
+    /// The future where the closure could not be shared: it gives want of memory.
+    pub fn refused() -> MapErrServiceFuture<Fut, F, Req, E>
+        ensures { result.making.state ≡ Refused }
+    {
+        MapErrServiceFuture {
+            making: Making::refused(),
+            types: PhantomData,
+        }
+    }
 }
 
 impl<Fut, F, Req, E, S, I> Future for MapErrServiceFuture<Fut, F, Req, E>

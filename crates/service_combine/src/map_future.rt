@@ -17,6 +17,17 @@ pub struct MapFuture<Fut, F> {
     pub(crate) state: OneStage<Fut, F>,
 }
 
+impl<Fut, F> MapFuture<Fut, F> {
+    /// The future where the closure could not be shared: it gives want of memory.
+    pub fn refused() -> MapFuture<Fut, F>
+        ensures { result.state ≡ Refused }
+    {
+        MapFuture {
+            state: OneStage::Refused,
+        }
+    }
+}
+
 impl<Fut, F, Mid, Res, E> Future for MapFuture<Fut, F>
 where
     Fut: Future<Output = Result<Mid, E>>,

@@ -112,9 +112,7 @@ where
                     f,
                 },
             },
-            Err(_) => MapErrFuture {
-                state: OneStage::Refused,
-            },
+            Err(_) => MapErrFuture::refused(),
         }
     }
 }

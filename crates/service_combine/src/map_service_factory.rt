@@ -115,10 +115,7 @@ where
                 making: Making::of(self.factory.new_service(cfg), f),
                 types: PhantomData,
             },
-            Err(_) => MapServiceFuture {
-                making: Making::refused(),
-                types: PhantomData,
-            },
+            Err(_) => MapServiceFuture::refused(),
         }
     }
 }

@@ -1,8 +1,9 @@
-ghost use Rattle.std.specs.Prelude.{⊤};
+ghost use Rattle.std.specs.Prelude.{◌≡◌, ⊤};
 ghost use Rattle.futures.specs.Poll.{OnPending};
 ghost use Rattle.service_core.specs.Polls.{Polls};
 ghost use Rattle.service_combine.specs.Making.{WithPart};
 ghost use Rattle.service_combine.specs.Waits.{OneWaited};
+ghost use Rattle.service_combine.specs.declared.one_stage.OneStage.TheVariants.{Refused};
 
 use crate::Map;
 use crate::making::Making;
@@ -16,6 +17,18 @@ use std::marker::PhantomData;
 pub struct MapServiceFuture<Fut, F, Req, Res> {
     pub(crate) making: Making<Fut, F>,
     pub(crate) types: PhantomData<(Req, Res)>,
+}
+
+impl<Fut, F, Req, Res> MapServiceFuture<Fut, F, Req, Res> {
+    /// The future where the closure could not be shared: it gives want of memory.
+    pub fn refused() -> MapServiceFuture<Fut, F, Req, Res>
+        ensures { result.making.state ≡ Refused }
+    {
+        MapServiceFuture {
+            making: Making::refused(),
+            types: PhantomData,
+        }
+    }
 }
 
 impl<Fut, F, Req, Res, S, I> Future for MapServiceFuture<Fut, F, Req, Res>

@@ -100,9 +100,7 @@ where
                     parts,
                 },
             },
-            Err(_) => ThenServiceResponse {
-                state: TwoStages::Refused,
-            },
+            Err(_) => ThenServiceResponse::refused(),
         }
     }
 }

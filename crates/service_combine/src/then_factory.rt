@@ -123,10 +123,7 @@ where
                 },
                 alloc: self.alloc,
             },
-            Err(_) => ThenServiceFactoryResponse {
-                making: Both::Refused,
-                alloc: self.alloc,
-            },
+            Err(_) => ThenServiceFactoryResponse::refused(self.alloc),
         }
     }
 }

@@ -21,6 +21,21 @@ where
     pub(crate) state: TwoStages<A::Future, B::Future, (A, B)>,
 }
 
+impl<A, B, Req> ThenServiceResponse<A, B, Req>
+where
+    A: Service<Req>,
+    B: Service<Result<A::Response, A::Error>, Error = A::Error>,
+{
+    /// The future where the parts could not be shared: it gives want of memory.
+    pub fn refused() -> ThenServiceResponse<A, B, Req>
+        ensures { result.state ≡ Refused }
+    {
+        ThenServiceResponse {
+            state: TwoStages::Refused,
+        }
+    }
+}
+
 impl<A, B, Req> Future for ThenServiceResponse<A, B, Req>
 where
     A: Service<Req, Error: NoMemory> + Drop,

@@ -108,9 +108,7 @@ where
                     f,
                 },
             },
-            Err(_) => MapErrFuture {
-                state: OneStage::Refused,
-            },
+            Err(_) => MapErrFuture::refused(),
         }
     }
 }
