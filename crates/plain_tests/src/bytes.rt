@@ -1,0 +1,18 @@
+//! Texts, without a clause.
+use service_core::Octets;
+use std::alloc::{AllocError, Global};
+
+/// An empty text.
+pub(crate) fn empty(alloc: Global) -> Octets {
+    Octets::new(alloc)
+}
+
+/// The text goes on with these bytes.
+pub(crate) fn add(out: &mut Octets, bytes: &[u8]) -> Result<(), AllocError> {
+    out.push_all(bytes)
+}
+
+/// Whether the text is this one.
+pub(crate) fn is(out: &Octets, text: &[u8]) -> bool {
+    out.as_bytes() == text
+}

@@ -1,0 +1,180 @@
+//! Lists of headers looked up and changed.
+ghost use Rattle.std.specs.Prelude.{◌≡◌, length};
+
+use crate::bytes::{add, empty, is};
+use crate::headers::{add_line, lines, list_of, name_of, value_of};
+use http_header::{AGE, HOST, HeaderName, VARY};
+use http1_plain::{FieldValue, HeaderList, Single};
+use service_core::Octets;
+use std::alloc::{AllocError, Global};
+use std::test::Fail;
+
+// Whether the list has these headers, which are told as lines.
+fn has_lines(alloc: Global, headers: &HeaderList, wanted: &[u8]) -> Result<bool, AllocError> {
+    Ok(is(&lines(alloc, headers)?, wanted))
+}
+
+// The list vary: a, age: 1, vary: b, vary: c.
+fn four_headers(alloc: Global) -> Result<HeaderList, AllocError> {
+    list_of(
+        alloc,
+        &[("Vary", "a"), ("Age", "1"), ("vary", "b"), ("VARY", "c")],
+    )
+}
+
+// Whether the first value of the name is this one.
+fn begins_with(headers: &HeaderList, name: &HeaderName, wanted: &[u8]) -> bool {
+    match headers.get(name) {
+        Some(value) => value.as_bytes() == wanted,
+        None => false,
+    }
+}
+
+// How often the name stands, and 2 where that is more than once.
+fn times(headers: &HeaderList, name: &[u8]) -> u8 {
+    match headers.single(name) {
+        Single::Missing => 0,
+        Single::One(_) => 1,
+        Single::Several => 2,
+    }
+}
+
+#[test]
+fn a_header_is_looked_up_in_any_case(rt: HostRuntime) -> Result<(), Fail> {
+    let list = four_headers(rt.alloc())?;
+    assert!(rt; list.len() == 4);
+    assert!(rt; begins_with(&list, &VARY, b"a"));
+    assert!(rt; times(&list, b"vary") == 2);
+    assert!(rt; times(&list, b"age") == 1);
+    assert!(rt; times(&list, b"host") == 0);
+    Ok(())
+}
+
+// The value takes the place of the first header of the name.
+fn insert(
+    list: &mut HeaderList,
+    alloc: Global,
+    name: HeaderName,
+    value: &[u8],
+) -> Result<(), AllocError> {
+    list.insert(name, value_of(alloc, value)?)
+}
+
+#[test]
+fn an_inserted_header_takes_the_place_of_the_first_of_its_name(
+    rt: HostRuntime,
+) -> Result<(), Fail> {
+    let alloc = rt.alloc();
+    let mut list = four_headers(alloc)?;
+    insert(&mut list, alloc, VARY, b"Origin")?;
+    assert!(rt; has_lines(alloc, &list, b"vary=Origin;age=1;")?);
+    insert(&mut list, alloc, HOST, b"h")?;
+    assert!(rt; has_lines(alloc, &list, b"vary=Origin;age=1;host=h;")?);
+    Ok(())
+}
+
+// So many headers of the name go.
+fn loses(list: &mut HeaderList, name: &HeaderName, wanted: usize) -> bool {
+    list.remove(name) == wanted
+}
+
+#[test]
+fn a_copy_stays_where_its_list_is_changed(rt: HostRuntime) -> Result<(), Fail> {
+    let alloc = rt.alloc();
+    let mut list = four_headers(alloc)?;
+    let copy = list.copy(list.allocator())?;
+    assert!(rt; loses(&mut list, &AGE, 1));
+    assert!(rt; has_lines(alloc, &list, b"vary=a;vary=b;vary=c;")?);
+    assert!(rt; has_lines(alloc, &copy, b"vary=a;age=1;vary=b;vary=c;")?);
+    Ok(())
+}
+
+// The list a: 1, b: 2, a: 3.
+fn three_headers(alloc: Global) -> Result<HeaderList, AllocError> {
+    list_of(alloc, &[("a", "1"), ("b", "2"), ("a", "3")])
+}
+
+// The same as `lines`, by the list's iterator.
+fn lines_by_iter(alloc: Global, headers: &HeaderList) -> Result<Octets, AllocError> {
+    let mut lines = empty(alloc);
+    for (name, value) in headers.iter() {
+        add_line(&mut lines, name, value)?;
+    }
+    Ok(lines)
+}
+
+fn count_of_headers(headers: &HeaderList) -> usize
+    ensures { result ≡ length headers.now }
+{
+    headers.iter().count()
+}
+
+#[test]
+fn headers_are_told_in_order(rt: HostRuntime) -> Result<(), Fail> {
+    let alloc = rt.alloc();
+    let list = three_headers(alloc)?;
+    assert!(rt; count_of_headers(&list) == 3);
+    assert!(rt; is(&lines_by_iter(alloc, &list)?, b"a=1;b=2;a=3;"));
+    assert!(rt; !list.is_empty() && HeaderList::new(alloc).is_empty());
+    Ok(())
+}
+
+// The values of the name, one behind the other.
+fn joined(
+    alloc: Global,
+    headers: &HeaderList,
+    name: &HeaderName,
+) -> Result<FieldValue, AllocError> {
+    let mut text = FieldValue::empty(alloc);
+    for value in headers.get_all(name) {
+        text.push_value(value)?;
+    }
+    Ok(text)
+}
+
+// Whether the values of the name are these, one behind the other.
+fn has_values(
+    alloc: Global,
+    headers: &HeaderList,
+    name: &HeaderName,
+    wanted: &[u8],
+) -> Result<bool, AllocError> {
+    Ok(joined(alloc, headers, name)?.as_bytes() == wanted)
+}
+
+#[test]
+fn all_values_of_a_name(rt: HostRuntime) -> Result<(), Fail> {
+    let alloc = rt.alloc();
+    let list = three_headers(alloc)?;
+    let a = name_of(alloc, b"A")?;
+    assert!(rt; has_values(alloc, &list, &a, b"13")?);
+    assert!(rt; has_values(alloc, &list, &HOST, b"")?);
+    Ok(())
+}
+
+// Each name of the list once, one behind the other.
+fn names(alloc: Global, headers: &HeaderList) -> Result<Octets, AllocError> {
+    let mut text = empty(alloc);
+    for name in headers.names() {
+        add(&mut text, name.as_bytes())?;
+    }
+    Ok(text)
+}
+
+#[test]
+fn each_name_is_told_once(rt: HostRuntime) -> Result<(), Fail> {
+    let list = three_headers(rt.alloc())?;
+    assert!(rt; is(&names(rt.alloc(), &list)?, b"ab"));
+    Ok(())
+}
+
+#[test]
+fn headers_of_a_name_go(rt: HostRuntime) -> Result<(), Fail> {
+    let alloc = rt.alloc();
+    let mut list = three_headers(alloc)?;
+    let a = name_of(alloc, b"a")?;
+    assert!(rt; loses(&mut list, &HOST, 0));
+    assert!(rt; loses(&mut list, &a, 2));
+    assert!(rt; has_lines(alloc, &list, b"b=2;")?);
+    Ok(())
+}

@@ -1,0 +1,201 @@
+//! Requests cut from bytes.
+use crate::bytes::{add, empty};
+use http1_plain::{Framing, Limits, NextHead, framing_of, next_head};
+use service_core::Octets;
+use std::alloc::{AllocError, Global};
+use std::test::Fail;
+
+// These limits, or the nearest that there are.
+fn limits(head: usize, body: usize) -> Limits {
+    Limits::new(head.clamp(1, 65_535), body.clamp(1, 16_777_216))
+}
+
+// The limits of most tests.
+fn wide() -> Limits {
+    limits(32_768, 1_048_576)
+}
+
+// 0 where more bytes are needed, the status of a refusal, and 1000 more than the length of a head.
+fn outcome(alloc: Global, limits: Limits, bytes: &[u8]) -> Result<usize, AllocError> {
+    Ok(match next_head(alloc, limits, bytes)? {
+        NextHead::Nothing => 0,
+        NextHead::Refused(status) => usize::from(status),
+        NextHead::Found(_, used) => 1000usize.saturating_add(used),
+    })
+}
+
+// Whether each shorter front of the bytes is undecided.
+fn are_undecided(alloc: Global, bytes: &[u8]) -> Result<bool, AllocError> {
+    for len in 0..bytes.len() {
+        if outcome(alloc, wide(), &bytes[..len])? != 0 {
+            return Ok(false);
+        }
+    }
+    Ok(true)
+}
+
+// Whether the text is cut as told by `outcome`.
+fn is_cut(alloc: Global, text: &str, wanted: usize) -> Result<bool, AllocError> {
+    Ok(outcome(alloc, wide(), text.as_bytes())? == wanted)
+}
+
+#[test]
+fn a_head_byte_by_byte(rt: HostRuntime) -> Result<(), Fail> {
+    let alloc = rt.alloc();
+    let text = "GET / HTTP/1.1\r\n\r\n";
+    assert!(rt; are_undecided(alloc, text.as_bytes())?);
+    assert!(rt; is_cut(alloc, text, 1018)?);
+    Ok(())
+}
+
+#[test]
+fn empty_lines_before_a_head_are_passed_over(rt: HostRuntime) -> Result<(), Fail> {
+    let alloc = rt.alloc();
+    assert!(rt; is_cut(alloc, "\r\n\n\r\nGET / HTTP/1.1\nA: b\n\n", 1026)?);
+    assert!(rt; is_cut(alloc, "\r", 0)?);
+    assert!(rt; is_cut(alloc, "\r\rGET / HTTP/1.1\r\n\r\n", 400)?);
+    Ok(())
+}
+
+#[test]
+fn heads_of_no_request_are_refused(rt: HostRuntime) -> Result<(), Fail> {
+    let alloc = rt.alloc();
+    assert!(rt; is_cut(alloc, "G@T / HTTP/1.1\r\n\r\n", 400)?);
+    assert!(rt; is_cut(alloc, "GET / HTTP/1.1\r\nA: b\r\n c\r\n\r\n", 400)?);
+    assert!(rt; is_cut(alloc, "GET / HTTP/1.1\r\nA : b\r\n\r\n", 400)?);
+    assert!(rt; is_cut(alloc, "GET / HTTP/2.0\r\n\r\n", 400)?);
+    assert!(rt; is_cut(alloc, "GET / HTTP/1.1\r\nA: b\rc\r\n\r\n", 400)?);
+    Ok(())
+}
+
+#[test]
+fn bodies_of_unclear_length_are_refused(rt: HostRuntime) -> Result<(), Fail> {
+    let alloc = rt.alloc();
+    assert!(rt;
+        is_cut(
+            alloc,
+            "POST / HTTP/1.1\r\nHost: a\r\nContent-Length: 1\r\nTransfer-Encoding: chunked\r\n\r\n",
+            400
+        )?
+    );
+    assert!(rt;
+        is_cut(
+            alloc,
+            "POST / HTTP/1.1\r\nTransfer-Encoding: chunked\r\nTransfer-Encoding: chunked\r\n\r\n",
+            400
+        )?
+    );
+    assert!(rt;
+        is_cut(
+            alloc,
+            "POST / HTTP/1.0\r\nTransfer-Encoding: chunked\r\n\r\n",
+            400
+        )?
+    );
+    assert!(rt; is_cut(alloc, "POST / HTTP/1.1\r\nContent-Length: +4\r\n\r\n", 400)?);
+    assert!(rt;
+        is_cut(
+            alloc,
+            "POST / HTTP/1.1\r\nTransfer-Encoding: CHUNKED\r\n\r\n",
+            1047
+        )?
+    );
+    Ok(())
+}
+
+#[test]
+fn bodies_above_the_limit_are_refused(rt: HostRuntime) -> Result<(), Fail> {
+    let alloc = rt.alloc();
+    assert!(rt;
+        is_cut(
+            alloc,
+            "POST / HTTP/1.1\r\nContent-Length: 1048577\r\n\r\n",
+            413
+        )?
+    );
+    assert!(rt;
+        is_cut(
+            alloc,
+            "POST / HTTP/1.1\r\nContent-Length: 0001048576\r\n\r\n",
+            1047
+        )?
+    );
+    assert!(rt;
+        is_cut(
+            alloc,
+            "POST / HTTP/1.1\r\nContent-Length: 9999999999999999999999999999999999999999\r\n\r\n",
+            413
+        )?
+    );
+    Ok(())
+}
+
+// A text, so many times.
+fn repeated(out: &mut Octets, text: &str, times: u8) -> Result<(), AllocError> {
+    for _ in 0..times {
+        add(out, text.as_bytes())?;
+    }
+    Ok(())
+}
+
+// Whether a front, a text so many times, and an end are cut so.
+fn are_cut(
+    alloc: Global,
+    limits: Limits,
+    parts: (&str, &str, u8, &str),
+    wanted: usize,
+) -> Result<bool, AllocError> {
+    let mut bytes = empty(alloc);
+    add(&mut bytes, parts.0.as_bytes())?;
+    repeated(&mut bytes, parts.1, parts.2)?;
+    add(&mut bytes, parts.3.as_bytes())?;
+    Ok(outcome(alloc, limits, bytes.as_bytes())? == wanted)
+}
+
+#[test]
+fn heads_at_the_limit(rt: HostRuntime) -> Result<(), Fail> {
+    let alloc = rt.alloc();
+    let line = "GET / HTTP/1.1\r\n";
+    let header = "GET / HTTP/1.1\r\nA: ";
+    assert!(rt; are_cut(alloc, limits(64, 1), (header, "x", 44, ""), 0)?);
+    assert!(rt; are_cut(alloc, limits(64, 1), (header, "x", 45, ""), 431)?);
+    // 96 header lines and 97
+    assert!(rt; are_cut(alloc, wide(), (line, "a:\r\n", 96, "\r\n"), 1402)?);
+    assert!(rt; are_cut(alloc, wide(), (line, "a:\r\n", 97, "\r\n"), 431)?);
+    Ok(())
+}
+
+// Whether the limits are these.
+fn are_limits(limits: Limits, head: usize, body: usize) -> bool {
+    limits.head() == head && limits.body() == body
+}
+
+// Whether the body of the request is framed so.
+fn is_framed(alloc: Global, bytes: &[u8], wanted: Framing) -> Result<bool, AllocError> {
+    Ok(match next_head(alloc, limits(512, 9), bytes)? {
+        NextHead::Found(head, _) => framing_of(&head, 9) == wanted,
+        _ => false,
+    })
+}
+
+#[test]
+fn framings(rt: HostRuntime) -> Result<(), Fail> {
+    let alloc = rt.alloc();
+    assert!(rt; are_limits(limits(512, 9), 512, 9));
+    assert!(rt; is_framed(alloc, b"GET / HTTP/1.1\r\n\r\n", Framing::Empty)?);
+    assert!(rt;
+        is_framed(
+            alloc,
+            b"GET / HTTP/1.1\r\nContent-Length: 9\r\n\r\n",
+            Framing::Sized(9)
+        )?
+    );
+    assert!(rt;
+        is_framed(
+            alloc,
+            b"GET / HTTP/1.1\r\nTransfer-Encoding: chunked\r\n\r\n",
+            Framing::Chunked
+        )?
+    );
+    Ok(())
+}

@@ -1,0 +1,178 @@
+//! Responses written.
+use crate::bytes::{empty, is};
+use crate::headers::{list_of, value_of};
+use http::method::Method;
+use http_header::VARY;
+use http1_plain::{
+    HeaderList, HttpVersion, Response, write_continue, write_refusal, write_response,
+};
+use service_core::Octets;
+use std::alloc::{AllocError, Global};
+use std::test::Fail;
+
+// The refusal of a bad request.
+fn refusal(alloc: Global) -> Result<Octets, AllocError> {
+    let mut out = empty(alloc);
+    write_refusal(&mut out, 400)?;
+    Ok(out)
+}
+
+// Two refusals and a request to go on, one behind the other.
+fn refusals_and_more(alloc: Global) -> Result<Octets, AllocError> {
+    let mut out = empty(alloc);
+    write_refusal(&mut out, 431)?;
+    write_refusal(&mut out, 413)?;
+    write_continue(&mut out)?;
+    Ok(out)
+}
+
+#[test]
+fn refusals(rt: HostRuntime) -> Result<(), Fail> {
+    let alloc = rt.alloc();
+    assert!(rt;
+        is(
+            &refusal(alloc)?,
+            b"HTTP/1.1 400 Bad Request\r\ncontent-length: 0\r\nconnection: close\r\n\r\n"
+        )
+    );
+    assert!(rt;
+        is(
+            &refusals_and_more(alloc)?,
+            b"HTTP/1.1 431 Request Header Fields Too Large\r\ncontent-length: 0\r\nconnection: close\r\n\r\nHTTP/1.1 413 Payload Too Large\r\ncontent-length: 0\r\nconnection: close\r\n\r\nHTTP/1.1 100 Continue\r\n\r\n"
+        )
+    );
+    Ok(())
+}
+
+// Whether the response is written so.
+fn is_written(
+    response: &Response,
+    asked: (&Method, HttpVersion, bool),
+    alloc: Global,
+    text: &[u8],
+) -> Result<bool, AllocError> {
+    let mut out = empty(alloc);
+    write_response(&mut out, asked.0, asked.1, response, asked.2)?;
+    Ok(is(&out, text))
+}
+
+// The headers of a page, and one that only the connection may write.
+fn page_headers(alloc: Global) -> Result<HeaderList, AllocError> {
+    list_of(
+        alloc,
+        &[
+            ("Content-Type", "text/plain"),
+            ("Connection", "close"),
+            ("vary", "Origin"),
+        ],
+    )
+}
+
+// 200 with a page.
+fn page(alloc: Global) -> Result<Response, AllocError> {
+    let headers = page_headers(alloc)?;
+    let body = Octets::of(alloc, b"Hello world!")?;
+    let mut response = Response::new(alloc, 200);
+    response.set_headers(headers);
+    response.set_body(body);
+    Ok(response)
+}
+
+// Whether the page is written so.
+fn is_page(
+    alloc: Global,
+    asked: (&Method, HttpVersion, bool),
+    text: &[u8],
+) -> Result<bool, AllocError> {
+    is_written(&page(alloc)?, asked, alloc, text)
+}
+
+#[test]
+fn an_answer_to_head_has_no_body(rt: HostRuntime) -> Result<(), Fail> {
+    assert!(rt;
+        is_page(
+            rt.alloc(),
+            (&Method::HEAD, HttpVersion::Http11, false),
+            b"HTTP/1.1 200 OK\r\ncontent-type: text/plain\r\nvary: Origin\r\ncontent-length: 12\r\n\r\n"
+        )?
+    );
+    Ok(())
+}
+
+#[test]
+fn an_old_client_is_told_that_the_connection_stays(rt: HostRuntime) -> Result<(), Fail> {
+    assert!(rt;
+        is_page(
+            rt.alloc(),
+            (&Method::GET, HttpVersion::Http10, false),
+            b"HTTP/1.1 200 OK\r\ncontent-type: text/plain\r\nvary: Origin\r\ncontent-length: 12\r\nconnection: keep-alive\r\n\r\nHello world!"
+        )?
+    );
+    Ok(())
+}
+
+// Whether the response to a request of this version is written so.
+fn is_told(
+    alloc: Global,
+    response: &Response,
+    version: HttpVersion,
+    closing: bool,
+    text: &str,
+) -> Result<bool, AllocError> {
+    is_written(
+        response,
+        (&Method::GET, version, closing),
+        alloc,
+        text.as_bytes(),
+    )
+}
+
+#[test]
+fn statuses_without_a_body(rt: HostRuntime) -> Result<(), Fail> {
+    let alloc = rt.alloc();
+    let response = Response::new(alloc, 204);
+    let text = "HTTP/1.1 204 No Content\r\nconnection: keep-alive\r\n\r\n";
+    assert!(rt; is_told(alloc, &response, HttpVersion::Http10, false, text)?);
+    let text = "HTTP/1.1 204 No Content\r\nconnection: close\r\n\r\n";
+    assert!(rt; is_told(alloc, &response, HttpVersion::Http10, true, text)?);
+    let response = Response::new(alloc, 205);
+    let text = "HTTP/1.1 205 Reset Content\r\ncontent-length: 0\r\n\r\n";
+    assert!(rt; is_told(alloc, &response, HttpVersion::Http11, false, text)?);
+    let response = Response::new(alloc, 999);
+    let text = "HTTP/1.1 999 \r\ncontent-length: 0\r\n\r\n";
+    assert!(rt; is_told(alloc, &response, HttpVersion::Http11, false, text)?);
+    Ok(())
+}
+
+// The response varies by `Origin`.
+fn vary(response: &mut Response, alloc: Global) -> Result<(), AllocError> {
+    let value = value_of(alloc, b"Origin")?;
+    response.headers_mut().append(VARY, value)
+}
+
+// A text with a header.
+fn no_such_page(alloc: Global) -> Result<Response, AllocError> {
+    let mut response = Response::text(alloc, 404, "no such page")?;
+    vary(&mut response, alloc)?;
+    Ok(response)
+}
+
+// Whether the response has this status, so many headers and this body.
+fn has_parts(response: &Response, status: u16, headers: usize, body: &[u8]) -> bool {
+    response.status() == status && response.headers().len() == headers && response.body() == body
+}
+
+#[test]
+fn a_response_is_changed(rt: HostRuntime) -> Result<(), Fail> {
+    let response = no_such_page(rt.alloc())?;
+    assert!(rt; has_parts(&response, 404, 1, b"no such page"));
+    assert!(rt;
+        is_written(
+            &response,
+            (&Method::GET, HttpVersion::Http11, true),
+            rt.alloc(),
+            b"HTTP/1.1 404 Not Found\r\nvary: Origin\r\ncontent-length: 12\r\nconnection: close\r\n\r\nno such page"
+        )?
+    );
+    Ok(())
+}

@@ -1,0 +1,87 @@
+//! Headers' values.
+use http1_plain::{FieldFault, FieldValue};
+use service_core::Octets;
+use std::alloc::{AllocError, Global};
+use std::test::Fail;
+
+fn accept(alloc: Global) -> Result<FieldValue, AllocError> {
+    FieldValue::of_field_bytes(alloc, b"Accept")
+}
+
+fn origin(alloc: Global) -> Result<FieldValue, AllocError> {
+    Ok(FieldValue::from_octets(Octets::of(alloc, b"Origin")?))
+}
+
+fn both(alloc: Global) -> Result<FieldValue, AllocError> {
+    let mut value = FieldValue::empty(alloc);
+    value.push_field_bytes(b"Origin")?;
+    value.push_field_bytes(b", ")?;
+    value.push_value(&accept(alloc)?)?;
+    Ok(value)
+}
+
+// Whether the value is of these bytes.
+fn is(value: &FieldValue, bytes: &[u8]) -> bool {
+    value.as_bytes() == bytes
+}
+
+#[test]
+fn values_are_joined(rt: HostRuntime) -> Result<(), Fail> {
+    let alloc = rt.alloc();
+    assert!(rt; is(&FieldValue::empty(alloc), b""));
+    assert!(rt; is(&both(alloc)?, b"Origin, Accept"));
+    Ok(())
+}
+
+// Whether a copy and a clone are equal to the value.
+fn equals_its_copies(value: &FieldValue) -> Result<bool, AllocError> {
+    let copy = value.copy()?;
+    let clone = value.clone()?;
+    Ok(*value == copy && *value == clone)
+}
+
+fn are_in_order(less: &FieldValue, greater: &FieldValue) -> bool {
+    less < greater && greater > less
+}
+
+#[test]
+fn values_are_compared_by_their_bytes(rt: HostRuntime) -> Result<(), Fail> {
+    let less = accept(rt.alloc())?;
+    let greater = origin(rt.alloc())?;
+    assert!(rt; equals_its_copies(&less)?);
+    assert!(rt; equals_its_copies(&greater)?);
+    assert!(rt; are_in_order(&less, &greater));
+    Ok(())
+}
+
+// Whether the first bad byte of the text stands at this place.
+fn is_bad_at(alloc: Global, bytes: &[u8], wanted: usize) -> Result<bool, FieldFault> {
+    match FieldValue::new(alloc, bytes) {
+        Ok(_) => Ok(false),
+        Err(FieldFault::BadByte { place }) => Ok(place == wanted),
+        Err(FieldFault::Memory) => Err(FieldFault::Memory),
+    }
+}
+
+#[test]
+fn a_bad_byte_is_told_with_its_place(rt: HostRuntime) -> Result<(), Fail> {
+    assert!(rt; is_bad_at(rt.alloc(), b"a\r\nb: c", 1)?);
+    assert!(rt; is_bad_at(rt.alloc(), b"a\0b", 1)?);
+    Ok(())
+}
+
+// Whether the value of these bytes has this text.
+fn is_text(alloc: Global, bytes: &[u8], wanted: Option<&str>) -> Result<bool, FieldFault> {
+    let value = FieldValue::new(alloc, bytes)?;
+    Ok(value.as_text() == wanted)
+}
+
+#[test]
+fn values_as_text(rt: HostRuntime) -> Result<(), Fail> {
+    let alloc = rt.alloc();
+    assert!(rt; is_text(alloc, b"\tvisible ~", Some("\tvisible ~"))?);
+    assert!(rt; is_text(alloc, b"\x80", None)?);
+    assert!(rt; is_text(alloc, b"a\x7f", None)?);
+    assert!(rt; is_text(alloc, b"", Some(""))?);
+    Ok(())
+}
