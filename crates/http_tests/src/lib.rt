@@ -1,0 +1,14 @@
+//! Tests of `http_service` by public calls: what a connection answers, over links that give and take in pieces, wait and fail,
+//! and that it is what `http_plain` says.
+#![tactic(auto)]
+
+#[cfg(test)]
+mod echo;
+#[cfg(test)]
+mod head_tests;
+#[cfg(test)]
+mod serving;
+#[cfg(test)]
+mod test_link;
+#[cfg(test)]
+mod tests;

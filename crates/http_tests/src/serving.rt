@@ -1,0 +1,84 @@
+//! Connections that are served and looked at: calls without a clause.
+use crate::echo::{Echo, EchoError};
+use crate::test_link::{TestLink, Way};
+use futures::Future;
+use futures::task::Poll;
+use futures::test::MockTask;
+use http_service::H1ServiceHandler;
+use http1_plain::Limits;
+use service_core::{Ended, How, LinkHolder, Service};
+use std::alloc::{AllocError, Global};
+
+/// The answer to a plain request with the target `/a`.
+pub(crate) const OK: &[u8] = b"HTTP/1.1 200 OK\r\ncontent-length: 2\r\n\r\n/a";
+
+/// The answer to what isn't served.
+pub(crate) const REFUSED: &[u8] =
+    b"HTTP/1.1 501 Not Implemented\r\ncontent-length: 0\r\nconnection: close\r\n\r\n";
+
+/// The answers to a plain request with the target `/a` and a byte behind it.
+pub(crate) const OK_REFUSED: &[u8] = b"HTTP/1.1 200 OK\r\ncontent-length: 2\r\n\r\n/a\
+HTTP/1.1 501 Not Implemented\r\ncontent-length: 0\r\nconnection: close\r\n\r\n";
+
+/// What the connections of the tests are served within.
+pub(crate) fn limits() -> Limits {
+    Limits::new(64, 1024)
+}
+
+/// Serves connections by `Echo`.
+pub(crate) fn handler(alloc: Global) -> Result<H1ServiceHandler<Echo>, AllocError> {
+    H1ServiceHandler::new(alloc, Echo { alloc }, limits())
+}
+
+// Whether the connection ended so, and this was written.
+fn has_ended(
+    given: Result<Ended<TestLink>, EchoError>,
+    how: Option<How>,
+    text: &[u8],
+) -> Result<bool, AllocError> {
+    match given {
+        Err(EchoError::Missing) => Ok(false),
+        Err(EchoError::Memory) => Err(AllocError),
+        Ok(
+            Ended {
+                link: _,
+                how: How::Memory,
+            },
+        ) => Err(AllocError),
+        Ok(ended) => Ok(Some(ended.how) == how && ended.link.is_written(text)),
+    }
+}
+
+// Whether the future ends so within so many polls, or not at all, and this was written.
+fn polled<F>(
+    task: &MockTask,
+    mut future: F,
+    polls: usize,
+    how: Option<How>,
+    text: &[u8],
+) -> Result<bool, AllocError>
+where
+    F: Future<Output = Result<Ended<TestLink>, EchoError>> + LinkHolder<TestLink> + Drop,
+    requires { F.can_poll future }
+{
+    for _ in 0..polls {
+        if let Poll::Ready(given) = task.poll(&mut future) {
+            return has_ended(given, how, text);
+        }
+    }
+    Ok(how.is_none() && future.into_link().is_written(text))
+}
+
+/// Whether the service of a link over these bytes ends so within so many polls, or not at all, and wrote this.
+pub(crate) fn is_served(
+    task: &MockTask,
+    alloc: Global,
+    served: (&[u8], Way, usize),
+    how: Option<How>,
+    text: &[u8],
+) -> Result<bool, AllocError> {
+    let (bytes, way, polls) = served;
+    let link = TestLink::new(alloc, bytes, way)?;
+    let handler = handler(alloc)?;
+    polled(task, handler.call(link), polls, how, text)
+}
