@@ -5,15 +5,9 @@ pub mod Marks
 pub mod Orders
 pub mod Picks
 pub mod Places
-pub mod PlainMoves
-pub mod PlainReads
-pub mod PlainSteps
-pub mod PlainWorkers
 pub mod RunSteps
 pub mod Searches
 pub mod Starts
 pub mod TakenTurns
 pub mod TurnSteps
 pub mod Walks
-pub mod WorkerCoreSteps
-pub mod WorkerCoreRuns

@@ -3,9 +3,5 @@ pub mod Inside
 pub mod InsideTurns
 pub mod Ledger
 pub mod Numbers
-pub mod Plain
 pub mod Runs
-pub mod Statuses
 pub mod Turns
-pub mod WorkerCore
-pub mod WorkerRuns

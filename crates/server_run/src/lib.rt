@@ -11,8 +11,6 @@ mod keep_all;
 mod listener;
 mod listener_step;
 mod memory_link;
-#[cfg(test)]
-mod memory_link_tests;
 mod memory_listener;
 mod outcome;
 mod read_step;
@@ -20,8 +18,6 @@ mod report;
 mod serve_error;
 mod server;
 mod server_service_factory;
-#[cfg(test)]
-mod tests;
 mod write_step;
 
 pub use builder::{ServerBuilder, new};

@@ -1,5 +1,0 @@
-use Rattle.server_core.proofs.WorkerCoreRuns.{available_each}
-use Rattle.server_core.proofs.worker_laws.an_available_worker_has_each_service.Goals as goal
-
-pub returns : goal.returns
-returns c = available_each

@@ -1,0 +1,241 @@
+//! Runs of a server over listeners in memory, and what keeps its entries.
+use crate::end_at_once::EndAtOnce;
+use server_run::{
+    Accepted, Done, End, Entry, Host, KeepAll, Listener, ListenerState, ListenerStep, MemoryLink,
+    MemoryListener, Outcome, Report, ServeError, Server, ServerBuilder,
+};
+use service_core::{How, Peer};
+use std::alloc::{AllocError, Global};
+use std::test::Fail;
+
+// A link by its name, which gives nothing.
+fn link_named(alloc: Global, name: u64) -> MemoryLink {
+    MemoryLink::new(alloc, name, Peer::Unknown, Vec::new(alloc), Vec::new(alloc))
+}
+
+// An entry, but for its link, of which it has the name.
+#[derive(Clone, Copy)]
+struct Told {
+    serial: u64,
+    token: usize,
+    place: u64,
+    name: u64,
+    outcome: Outcome,
+}
+
+fn is_told(entry: &Entry<MemoryLink>, told: Told) -> bool {
+    entry.serial == told.serial
+        && entry.token == told.token
+        && entry.place == told.place
+        && entry.link.name() == told.name
+        && entry.outcome == told.outcome
+}
+
+// Whether the entries are these two.
+fn are_two(entries: &[Entry<MemoryLink>], first: Told, second: Told) -> bool {
+    match entries {
+        [one, other] => is_told(one, first) && is_told(other, second),
+        _ => false,
+    }
+}
+
+// Whether the listener answers in this word, with a link of this name where it gives one.
+fn answers<Li: Listener<Link = MemoryLink>>(
+    listener: &mut Li,
+    name: Option<u64>,
+    word: &str,
+) -> bool {
+    match listener.accept() {
+        Accepted::Got(link) => name == Some(link.name()) && word == "got",
+        Accepted::NotYet => name.is_none() && word == "not yet",
+        Accepted::Skipped => name.is_none() && word == "skipped",
+        Accepted::Failed => name.is_none() && word == "failed",
+        Accepted::Ended => name.is_none() && word == "ended",
+    }
+}
+
+// Hands over two entries.
+fn take_two<D: Done<MemoryLink>>(
+    done: &mut D,
+    first: Entry<MemoryLink>,
+    second: Entry<MemoryLink>,
+) -> Result<(), AllocError> {
+    done.make_room(2)?;
+    done.take(first);
+    done.take(second);
+    Ok(())
+}
+
+// Whether the server ended as drained, with its one listener at its end.
+fn is_drained(served: Result<Report, ServeError<AllocError>>) -> Result<bool, AllocError> {
+    match served {
+        Ok(
+            Report {
+                end: End::Memory,
+                ..
+            },
+        )
+        | Err(ServeError::Memory) => Err(AllocError),
+        Ok(report) => Ok(report.end == End::Drained && are_ended(report.listeners.as_slice())),
+        Err(_) => Ok(false),
+    }
+}
+
+// Whether this is one listener at its end.
+fn are_ended(listeners: &[ListenerState]) -> bool {
+    matches!(listeners, [ListenerState::Ended])
+}
+
+// A listener that gives two links among other answers.
+fn two_links_among_others(alloc: Global) -> Result<MemoryListener, AllocError> {
+    let steps = vec![in alloc;
+        ListenerStep::NotYet,
+        ListenerStep::Give(link_named(alloc, 10)),
+        ListenerStep::Skip,
+        ListenerStep::Fail,
+        ListenerStep::Give(link_named(alloc, 11)),
+        ListenerStep::NotYet,
+    ]?;
+    Ok(MemoryListener::new(alloc, steps))
+}
+
+// Whether the server serves what the listener gives, and ends as drained.
+fn serves<H: Host>(
+    rt: &H,
+    server: Server<EndAtOnce>,
+    listener: MemoryListener,
+    done: &mut KeepAll<MemoryLink>,
+) -> Result<bool, AllocError> {
+    let alloc = rt.alloc();
+    let mut listeners = Vec::new(alloc);
+    listeners.push(listener)?;
+    is_drained(server.serve(rt, alloc, &mut listeners, done))
+}
+
+#[test]
+fn each_connection_is_handed_on_in_order(rt: HostRuntime) -> Result<(), Fail> {
+    let alloc = rt.alloc();
+    let listener = two_links_among_others(alloc)?;
+    let mut done = KeepAll::new(alloc);
+    let server = server_run::new(alloc)?.run(EndAtOnce);
+    assert!(rt; serves(&rt, server, listener, &mut done)?);
+    let first = Told {
+        serial: 0,
+        token: 0,
+        place: 0,
+        name: 10,
+        outcome: Outcome::Served,
+    };
+    let second = Told {
+        serial: 1,
+        token: 0,
+        place: 1,
+        name: 11,
+        outcome: Outcome::Served,
+    };
+    assert!(rt; are_two(done.entries(), first, second));
+    Ok(())
+}
+
+// Whether a server without a listener is refused for that.
+fn is_refused<H: Host>(
+    rt: &H,
+    server: Server<EndAtOnce>,
+    done: &mut KeepAll<MemoryLink>,
+) -> Result<bool, AllocError> {
+    let mut listeners: Vec<MemoryListener> = Vec::new(rt.alloc());
+    match server.serve(rt, rt.alloc(), &mut listeners, done) {
+        Err(ServeError::Memory) => Err(AllocError),
+        Err(ServeError::NoListener) => Ok(true),
+        _ => Ok(false),
+    }
+}
+
+#[test]
+fn without_a_listener_nothing_is_served(rt: HostRuntime) -> Result<(), Fail> {
+    let alloc = rt.alloc();
+    let mut done = KeepAll::new(alloc);
+    let server = ServerBuilder::new(alloc)?.run(EndAtOnce);
+    assert!(rt; is_refused(&rt, server, &mut done)?);
+    assert!(rt; done.entries().is_empty());
+    Ok(())
+}
+
+#[test]
+fn a_server_without_a_connection_is_drained(rt: HostRuntime) -> Result<(), Fail> {
+    let alloc = rt.alloc();
+    let listener = MemoryListener::new(alloc, Vec::new(alloc));
+    let mut done = KeepAll::new(alloc);
+    let server = Server::build(alloc)?.run(EndAtOnce);
+    assert!(rt; serves(&rt, server, listener, &mut done)?);
+    assert!(rt; done.entries().is_empty());
+    Ok(())
+}
+
+// An entry of a link that gives nothing.
+fn entry_of(alloc: Global, told: Told) -> Entry<MemoryLink> {
+    Entry {
+        serial: told.serial,
+        token: told.token,
+        place: told.place,
+        link: link_named(alloc, told.name),
+        outcome: told.outcome,
+    }
+}
+
+#[test]
+fn all_entries_are_kept_in_order(rt: HostRuntime) -> Result<(), Fail> {
+    let alloc = rt.alloc();
+    let first = Told {
+        serial: 4,
+        token: 1,
+        place: 2,
+        name: 20,
+        outcome: Outcome::Served,
+    };
+    let second = Told {
+        serial: 5,
+        token: 0,
+        place: 3,
+        name: 21,
+        outcome: Outcome::Memory,
+    };
+    let mut done = KeepAll::new(alloc);
+    take_two(&mut done, entry_of(alloc, first), entry_of(alloc, second))?;
+    assert!(rt; are_two(done.entries(), first, second));
+    Ok(())
+}
+
+// A listener that skips and fails at its ends, and gives two links.
+fn two_links_in_the_middle(alloc: Global) -> Result<MemoryListener, AllocError> {
+    let steps = vec![in alloc;
+        ListenerStep::Skip,
+        ListenerStep::Give(link_named(alloc, 30)),
+        ListenerStep::NotYet,
+        ListenerStep::Give(link_named(alloc, 31)),
+        ListenerStep::Fail,
+    ]?;
+    Ok(MemoryListener::new(alloc, steps))
+}
+
+#[test]
+fn a_listener_in_memory_answers_its_steps_and_then_ended(rt: HostRuntime) -> Result<(), Fail> {
+    let mut listener = two_links_in_the_middle(rt.alloc())?;
+    assert!(rt; answers(&mut listener, None, "skipped"));
+    assert!(rt; answers(&mut listener, Some(30), "got"));
+    assert!(rt; answers(&mut listener, None, "not yet"));
+    assert!(rt; answers(&mut listener, Some(31), "got"));
+    assert!(rt; answers(&mut listener, None, "failed"));
+    assert!(rt; answers(&mut listener, None, "ended"));
+    assert!(rt; answers(&mut listener, None, "ended"));
+    Ok(())
+}
+
+#[test]
+fn each_end_has_its_outcome(rt: HostRuntime) {
+    assert!(rt; Outcome::of(How::Served) == Outcome::Served);
+    assert!(rt; Outcome::of(How::ReadFault) == Outcome::ReadFault);
+    assert!(rt; Outcome::of(How::WriteFault) == Outcome::WriteFault);
+    assert!(rt; Outcome::of(How::Upgraded) == Outcome::Upgraded);
+    assert!(rt; Outcome::of(How::Memory) == Outcome::Memory);
+}

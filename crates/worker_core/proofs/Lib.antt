@@ -1,0 +1,2 @@
+pub mod WorkerCoreSteps
+pub mod WorkerCoreRuns
