@@ -1,0 +1,5 @@
+pub mod Faults
+pub mod Verdicts
+pub mod Meaning
+pub mod Waiting
+pub mod Transforms

@@ -1,0 +1,112 @@
+//! The answer to a preflight (Fetch Standard, "CORS protocol").
+ghost use Rattle.std.specs.Prelude.{◌≡◌, [], IfOk, option_copied, decimal, option_map};
+ghost use Rattle.http1_plain.specs.Views.{view};
+ghost use Rattle.cors_rules.specs.Fields.{allowed_value, vary};
+ghost use Rattle.cors_rules.specs.Answers.{preflight_check, preflight_headers, preflight};
+
+use crate::refusal::CorsRefusal;
+use cors_policy::{OriginRule, Policy, push_field, true_where, vary_where};
+use cors_rules::{AllOrSome, CorsError};
+use cors_sets::number_value;
+use http_header::{
+    ACCESS_CONTROL_ALLOW_CREDENTIALS, ACCESS_CONTROL_ALLOW_HEADERS, ACCESS_CONTROL_ALLOW_METHODS,
+    ACCESS_CONTROL_ALLOW_ORIGIN, ACCESS_CONTROL_MAX_AGE, ACCESS_CONTROL_REQUEST_HEADERS,
+};
+use http1_plain::{ErrorResponse, FieldValue, HeaderList, RequestHead, Response};
+use std::alloc::{AllocError, Global};
+
+// Origin, method and headers of a preflight, in this order.
+fn check_preflight<G: OriginRule>(policy: &Policy<G>, head: &RequestHead) -> Result<(), CorsError>
+    ensures { result ≡ preflight_check G.allowed policy.now (view head.now) }
+{
+    match policy.validate_origin(head) {
+        Err(error) => Err(error),
+        Ok(false) => Err(CorsError::OriginNotAllowed),
+        Ok(true) => match policy.validate_allowed_method(head) {
+            Err(error) => Err(error),
+            Ok(()) => policy.validate_allowed_headers(head),
+        },
+    }
+}
+
+// The request headers that the answer names.
+fn allowed_value<G>(
+    policy: &Policy<G>,
+    alloc: Global,
+    asked: Option<&FieldValue>,
+) -> Result<Option<FieldValue>, AllocError>
+    ensures { IfOk result (λ value. value ≡ allowed_value policy.now.headers (option_copied asked.entry)) }
+{
+    if let AllOrSome::Some(names) = &policy.headers {
+        if !names.is_empty() {
+            return names.joined_some(alloc);
+        }
+    }
+    match asked {
+        None => Ok(None),
+        Some(asked) => Ok(Some(asked.copy()?)),
+    }
+}
+
+// How long the answer may be kept.
+fn age_value(alloc: Global, max_age: Option<u64>) -> Result<Option<FieldValue>, AllocError>
+    ensures { IfOk result (λ value. value ≡ option_map decimal max_age) }
+{
+    match max_age {
+        None => Ok(None),
+        Some(seconds) => Ok(Some(number_value(alloc, seconds)?)),
+    }
+}
+
+// The headers of the answer, in their order.
+#[tactic(auto, using(std::proofs::Common::append_assoc), unfolding(cors_rules::specs::Answers::preflight_headers))]
+fn preflight_headers<G: OriginRule>(
+    policy: &Policy<G>,
+    alloc: Global,
+    head: &RequestHead,
+) -> Result<HeaderList, AllocError>
+    ensures { IfOk result (λ headers. headers ≡ preflight_headers policy.now (view head.now)) }
+{
+    let mut headers = HeaderList::new(alloc);
+    let origin = policy.grant_value(alloc, head)?;
+    push_field(&mut headers, ACCESS_CONTROL_ALLOW_ORIGIN, origin)?;
+    let methods = policy.methods.joined_some(alloc)?;
+    push_field(&mut headers, ACCESS_CONTROL_ALLOW_METHODS, methods)?;
+    let asked = head.headers.get(&ACCESS_CONTROL_REQUEST_HEADERS);
+    let names = allowed_value(policy, alloc, asked)?;
+    push_field(&mut headers, ACCESS_CONTROL_ALLOW_HEADERS, names)?;
+    let credentials = true_where(alloc, policy.credentials)?;
+    push_field(&mut headers, ACCESS_CONTROL_ALLOW_CREDENTIALS, credentials)?;
+    let age = age_value(alloc, policy.max_age)?;
+    push_field(&mut headers, ACCESS_CONTROL_MAX_AGE, age)?;
+    Ok(headers)
+}
+
+// The answer where the check passed.
+fn passed_preflight<G: OriginRule>(
+    policy: &Policy<G>,
+    alloc: Global,
+    head: &RequestHead,
+) -> Result<Response, AllocError>
+    ensures { IfOk result (λ r. r ≡ record { status = 200; headers = vary policy.now (preflight_headers policy.now (view head.now)); body = [] }) }
+{
+    let mut headers = preflight_headers(policy, alloc, head)?;
+    vary_where(policy, &mut headers)?;
+    let mut response = Response::new(alloc, 200);
+    response.set_headers(headers);
+    Ok(response)
+}
+
+// The answer to a preflight.
+pub(crate) fn answer_preflight<G: OriginRule>(
+    policy: &Policy<G>,
+    alloc: Global,
+    head: &RequestHead,
+) -> Result<Response, AllocError>
+    ensures { IfOk result (λ r. r ≡ preflight G.allowed policy.now (view head.now)) }
+{
+    match check_preflight(policy, head) {
+        Err(error) => CorsRefusal { error }.into_response(alloc),
+        Ok(()) => passed_preflight(policy, alloc, head),
+    }
+}

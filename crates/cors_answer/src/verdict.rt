@@ -1,0 +1,77 @@
+//! What becomes of a request.
+ghost use Rattle.std.specs.Prelude.{◌≡◌, [], IfOk};
+ghost use Rattle.http1_plain.specs.Views.{view};
+ghost use Rattle.cors_rules.specs.Answers.{verdict, by_grant, judged, refused};
+ghost use Rattle.cors_rules.specs.Fields.{vary};
+ghost use Rattle.cors_answer.specs.Verdicts.{verdict_of};
+
+use crate::preflight::answer_preflight;
+use crate::refusal::CorsRefusal;
+use cors_policy::{OriginRule, Policy, is_request_preflight, vary_where};
+use cors_rules::CorsError;
+use http_header::ORIGIN;
+use http1_plain::{ErrorResponse, FieldValue, RequestHead, Response};
+use std::alloc::{AllocError, Global};
+
+/// A request is answered here, or handed on with its origin's grant.
+#[derive(Drop)]
+pub enum Verdict {
+    /// With this response, and the inner service is not asked.
+    Answered(Response),
+    /// To the inner service, with the value of the grant, where there is one.
+    HandedOn(Option<FieldValue>),
+}
+
+// Whether the origin is granted; a request with no `Origin` asks for no grant.
+fn judge<G: OriginRule>(policy: &Policy<G>, head: &RequestHead) -> Result<bool, CorsError>
+    ensures { result ≡ judged G.allowed policy.now (view head.now) }
+{
+    match head.headers.get(&ORIGIN) {
+        Some(_) => policy.validate_origin(head),
+        None => Ok(false),
+    }
+}
+
+// The answer to a request whose origin was refused.
+pub(crate) fn blocked<G>(
+    policy: &Policy<G>,
+    alloc: Global,
+    error: CorsError,
+) -> Result<Response, AllocError>
+    ensures { IfOk result (λ r. r ≡ record (refused error) { headers = vary policy.now [] }) }
+{
+    let mut response = CorsRefusal { error }.into_response(alloc)?;
+    vary_where(policy, response.headers_mut())?;
+    Ok(response)
+}
+
+fn by_grant<G: OriginRule>(
+    policy: &Policy<G>,
+    alloc: Global,
+    head: &RequestHead,
+) -> Result<Verdict, AllocError>
+    ensures { IfOk result (λ v. verdict_of v
+        ≡ by_grant policy.now (view head.now) (judged G.allowed policy.now (view head.now))) }
+{
+    match judge(policy, head) {
+        Err(error) => Ok(Verdict::Answered(blocked(policy, alloc, error)?)),
+        Ok(true) => Ok(Verdict::HandedOn(policy.grant_value(alloc, head)?)),
+        Ok(false) => Ok(Verdict::HandedOn(None)),
+    }
+}
+
+// What becomes of the request under the policy.
+#[tactic(auto, unfolding(cors_rules::specs::Answers::verdict))]
+pub(crate) fn decide<G: OriginRule>(
+    policy: &Policy<G>,
+    alloc: Global,
+    head: &RequestHead,
+) -> Result<Verdict, AllocError>
+    ensures { IfOk result (λ v. verdict_of v ≡ verdict G.allowed policy.now (view head.now)) }
+{
+    if policy.preflight && is_request_preflight(head) {
+        Ok(Verdict::Answered(answer_preflight(policy, alloc, head)?))
+    } else {
+        by_grant(policy, alloc, head)
+    }
+}

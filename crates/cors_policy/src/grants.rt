@@ -1,0 +1,100 @@
+//! Whom a policy grants.
+ghost use Rattle.std.specs.Prelude.{◌≡◌, ◌&&◌, Ok, Err, IfOk, option_copied};
+ghost use Rattle.http1_plain.specs.Views.{view};
+ghost use Rattle.cors_rules.specs.Allowed.{is_all, finite_part};
+ghost use Rattle.cors_rules.specs.Sets.{holds};
+ghost use Rattle.std.specs.List.{list_any};
+ghost use Rattle.cors_rules.specs.Origins.{grants, validate_origin, granted_value};
+
+use crate::policy::Policy;
+use crate::rule::OriginRule;
+use cors_rules::{AllOrSome, CorsError};
+use cors_sets::literal;
+use http_header::ORIGIN;
+use http1_plain::{FieldValue, RequestHead};
+use std::alloc::{AllocError, Global};
+
+impl<G: OriginRule> Policy<G> {
+    // Whether the finite set holds the origin.
+    fn has_origin(&self, origin: &FieldValue) -> bool
+        ensures { result ≡ holds (finite_part self.now.origins) origin.now }
+    {
+        match &self.origins {
+            AllOrSome::All => false,
+            AllOrSome::Some(origins) => origins.contains(origin),
+        }
+    }
+
+    // Whether some rule allows the origin.
+    fn rule_allows(&self, head: &RequestHead, origin: &[u8]) -> bool
+        ensures { result ≡ list_any (λ rule. G.allowed rule origin.now (view head.now)) self.now.rules }
+    {
+        self.rules.iter().any(|rule| rule.allows(origin, head))
+    }
+
+    // Whether the origin is granted.
+    fn grants(&self, head: &RequestHead, origin: &FieldValue) -> bool
+        ensures { result ≡ grants G.allowed self.now (view head.now) origin.now }
+    {
+        self.has_origin(origin) || self.rule_allows(head, origin.as_bytes())
+    }
+
+    /// Whether the origin is granted, or why the request is refused.
+    #[tactic(auto, unfolding(cors_rules::specs::Origins::validate_origin))]
+    pub fn validate_origin(&self, head: &RequestHead) -> Result<bool, CorsError>
+        ensures { result ≡ validate_origin G.allowed self.now (view head.now) }
+    {
+        if self.origins.is_all() && self.rules.is_empty() {
+            return Ok(true);
+        }
+        match head.headers.get(&ORIGIN) {
+            None => Err(CorsError::MissingOrigin),
+            Some(origin) => {
+                if self.grants(head, origin) {
+                    Ok(true)
+                } else if self.block {
+                    Err(CorsError::OriginNotAllowed)
+                } else {
+                    Ok(false)
+                }
+            }
+        }
+    }
+
+    // Whether a grant is written as `*`.
+    fn writes_wildcard(&self) -> bool
+        ensures { result ≡ (is_all self.now.origins && self.now.wildcard) }
+    {
+        self.origins.is_all() && self.wildcard
+    }
+
+    /// The value that a grant writes.
+    pub fn access_control_allow_origin<'a>(&self, head: &'a RequestHead) -> Option<&'a [u8]>
+        ensures { option_copied result ≡ granted_value self.now (view head.now) }
+    {
+        if self.writes_wildcard() {
+            return Some(b"*");
+        }
+        match head.headers.get(&ORIGIN) {
+            Some(origin) => Some(origin.as_bytes()),
+            None => None,
+        }
+    }
+
+    /// The value that a grant writes, for an answer.
+    pub fn grant_value(
+        &self,
+        alloc: Global,
+        head: &RequestHead,
+    ) -> Result<Option<FieldValue>, AllocError>
+        ensures { IfOk result (λ value. value ≡ granted_value self.now (view head.now)) }
+    {
+        if self.writes_wildcard() {
+            return Ok(Some(literal(alloc, "*")?));
+        }
+        match head.headers.get(&ORIGIN) {
+            Some(origin) => Ok(Some(origin.copy()?)),
+            None => Ok(None),
+        }
+    }
+}

@@ -1,0 +1,4 @@
+pub mod SetSteps
+pub mod ValueSteps
+pub mod TokenSteps
+pub mod UriSteps
