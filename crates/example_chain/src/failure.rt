@@ -1,8 +1,8 @@
 ghost use Rattle.std.specs.Prelude.{◌≡◌};
 ghost use Rattle.example_chain.specs.declared.failure.Failure.TheVariants.{Memory, Policy};
-ghost use Rattle.cors_policy.specs.declared.init_error.CorsInitError.TheVariants.{Config, Memory as NoRoom};
+ghost use Rattle.cors_answer.specs.declared.init_error.CorsInitError.TheVariants.{Config, Memory as NoRoom};
 
-use cors_policy::CorsInitError;
+use cors_answer::CorsInitError;
 use service_core::NoMemory;
 use std::alloc::AllocError;
 

@@ -6,8 +6,6 @@ mod chain;
 mod failure;
 mod page;
 mod shown;
-#[cfg(test)]
-mod tests;
 
 use chain::answers;
 use command_line::print;
