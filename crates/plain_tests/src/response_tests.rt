@@ -111,36 +111,32 @@ fn an_old_client_is_told_that_the_connection_stays(rt: HostRuntime) -> Result<()
     Ok(())
 }
 
-// Whether the response to a request of this version is written so.
-fn is_told(
+// Whether an empty response of the status is written so, to a request of this version.
+fn is_empty_response(
     alloc: Global,
-    response: &Response,
-    version: HttpVersion,
-    closing: bool,
+    status: u16,
+    told: (HttpVersion, bool),
     text: &str,
 ) -> Result<bool, AllocError> {
-    is_written(
-        response,
-        (&Method::GET, version, closing),
-        alloc,
-        text.as_bytes(),
-    )
+    if status < 200 || status > 999 {
+        return Ok(false);
+    }
+    let response = Response::new(alloc, status);
+    let asked = (&Method::GET, told.0, told.1);
+    is_written(&response, asked, alloc, text.as_bytes())
 }
 
 #[test]
 fn statuses_without_a_body(rt: HostRuntime) -> Result<(), Fail> {
     let alloc = rt.alloc();
-    let response = Response::new(alloc, 204);
     let text = "HTTP/1.1 204 No Content\r\nconnection: keep-alive\r\n\r\n";
-    assert!(rt; is_told(alloc, &response, HttpVersion::Http10, false, text)?);
+    assert!(rt; is_empty_response(alloc, 204, (HttpVersion::Http10, false), text)?);
     let text = "HTTP/1.1 204 No Content\r\nconnection: close\r\n\r\n";
-    assert!(rt; is_told(alloc, &response, HttpVersion::Http10, true, text)?);
-    let response = Response::new(alloc, 205);
+    assert!(rt; is_empty_response(alloc, 204, (HttpVersion::Http10, true), text)?);
     let text = "HTTP/1.1 205 Reset Content\r\ncontent-length: 0\r\n\r\n";
-    assert!(rt; is_told(alloc, &response, HttpVersion::Http11, false, text)?);
-    let response = Response::new(alloc, 999);
+    assert!(rt; is_empty_response(alloc, 205, (HttpVersion::Http11, false), text)?);
     let text = "HTTP/1.1 999 \r\ncontent-length: 0\r\n\r\n";
-    assert!(rt; is_told(alloc, &response, HttpVersion::Http11, false, text)?);
+    assert!(rt; is_empty_response(alloc, 999, (HttpVersion::Http11, false), text)?);
     Ok(())
 }
 

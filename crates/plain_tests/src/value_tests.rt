@@ -1,4 +1,5 @@
 //! Headers' values.
+use crate::headers::value_of;
 use http1_plain::{FieldFault, FieldValue};
 use service_core::Octets;
 use std::alloc::{AllocError, Global};
@@ -34,32 +35,32 @@ fn values_are_joined(rt: HostRuntime) -> Result<(), Fail> {
 }
 
 // Whether a copy and a clone are equal to the value.
-fn equals_its_copies(value: &FieldValue) -> Result<bool, AllocError> {
+fn equals_its_copies(value: FieldValue) -> Result<bool, AllocError> {
     let copy = value.copy()?;
     let clone = value.clone()?;
-    Ok(*value == copy && *value == clone)
+    Ok(value == copy && value == clone)
 }
 
-fn are_in_order(less: &FieldValue, greater: &FieldValue) -> bool {
+// Whether the first value is less than the second, both ways.
+fn are_in_order(less: FieldValue, greater: FieldValue) -> bool {
     less < greater && greater > less
 }
 
 #[test]
 fn values_are_compared_by_their_bytes(rt: HostRuntime) -> Result<(), Fail> {
-    let less = accept(rt.alloc())?;
-    let greater = origin(rt.alloc())?;
-    assert!(rt; equals_its_copies(&less)?);
-    assert!(rt; equals_its_copies(&greater)?);
-    assert!(rt; are_in_order(&less, &greater));
+    let alloc = rt.alloc();
+    assert!(rt; equals_its_copies(accept(alloc)?)?);
+    assert!(rt; equals_its_copies(origin(alloc)?)?);
+    assert!(rt; are_in_order(accept(alloc)?, origin(alloc)?));
     Ok(())
 }
 
 // Whether the first bad byte of the text stands at this place.
-fn is_bad_at(alloc: Global, bytes: &[u8], wanted: usize) -> Result<bool, FieldFault> {
+fn is_bad_at(alloc: Global, bytes: &[u8], wanted: usize) -> Result<bool, AllocError> {
     match FieldValue::new(alloc, bytes) {
         Ok(_) => Ok(false),
         Err(FieldFault::BadByte { place }) => Ok(place == wanted),
-        Err(FieldFault::Memory) => Err(FieldFault::Memory),
+        Err(FieldFault::Memory) => Err(AllocError),
     }
 }
 
@@ -71,8 +72,8 @@ fn a_bad_byte_is_told_with_its_place(rt: HostRuntime) -> Result<(), Fail> {
 }
 
 // Whether the value of these bytes has this text.
-fn is_text(alloc: Global, bytes: &[u8], wanted: Option<&str>) -> Result<bool, FieldFault> {
-    let value = FieldValue::new(alloc, bytes)?;
+fn is_text(alloc: Global, bytes: &[u8], wanted: Option<&str>) -> Result<bool, AllocError> {
+    let value = value_of(alloc, bytes)?;
     Ok(value.as_text() == wanted)
 }
 
