@@ -1,6 +1,6 @@
 #!/usr/bin/env python3
-# The numbers on which the tests of `cors_plain` insist come from its table alone, by another program in another
-# language. Reads the policies, the requests and the inner service's replies of `crates/cors_plain/src/table`. Answers
+# The numbers on which the tests of `cors_table_tests` insist come from its table alone, by another program in another
+# language. Reads the policies, the requests and the inner service's replies of `crates/cors_table_tests/src`. Answers
 # each request under each policy and over each reply by the CORS protocol (Fetch Standard) with the choices of
 # `docs/DECISIONS.md`, and writes each answer as a response of HTTP/1.1 (RFC 9112). Counts the kinds of answers and
 # digests all their bytes.
@@ -162,7 +162,7 @@ class Source:
 
     def constant(self, name):
         """The constant's value. It is declared once, and has as many items as its type says."""
-        pattern = rf"^(?:pub\(super\) )?const {name}:([^=]*)="
+        pattern = rf"^(?:pub\(crate\) )?const {name}:([^=]*)="
         declared = list(re.finditer(pattern, self.text, re.MULTILINE))
         if len(declared) != 1:
             raise Fault(f"{self.path}: {name} is declared {len(declared)} times")
@@ -575,7 +575,7 @@ def main():
     """The repository's top may be given."""
     top = sys.argv[1] if len(sys.argv) > 1 else os.path.dirname(os.path.dirname(os.path.abspath(__file__)))
     try:
-        passed = are_as_expected(os.path.join(top, "crates", "cors_plain", "src", "table"))
+        passed = are_as_expected(os.path.join(top, "crates", "cors_table_tests", "src"))
     except (Fault, OSError) as fault:
         sys.exit(f"failed: {fault}")
     sys.exit(0 if passed else 1)

@@ -1,5 +1,5 @@
 //! The CORS protocol's answer (Fetch Standard) by a plain slow program, which is proved to be the definition of `cors_rules`.
-//! Nothing here calls the middleware but the tests, which compare the two.
+//! Nothing here calls the middleware.
 #![tactic(auto)]
 
 mod answers;
@@ -13,8 +13,6 @@ mod preflights;
 mod requested;
 mod response;
 mod rule;
-#[cfg(test)]
-mod table;
 mod texts;
 mod verdict;
 

@@ -1,8 +1,8 @@
 //! The service under the policy.
 ghost use Rattle.service_core.specs.Meaning.{GivesOnly};
 
-use super::requests::{Field, header_list, pairs};
-use crate::response::Response as Plain;
+use crate::requests::{Field, header_list, pairs};
+use cors_plain::Response as Plain;
 use futures::Future;
 use futures::task::{Context, Poll};
 use http1_plain::{ErrorResponse, Request, Response};
@@ -11,14 +11,14 @@ use std::alloc::{AllocError, Global};
 
 /// What the service gives to every request.
 #[derive(Clone, Copy)]
-pub(super) struct Reply {
-    pub(super) is_error: bool,
+pub(crate) struct Reply {
+    pub(crate) is_error: bool,
     status: u16,
     fields: &'static [Field],
     body: &'static str,
 }
 
-pub(super) const REPLIES: [Reply; 4] = [
+pub(crate) const REPLIES: [Reply; 4] = [
     Reply {
         is_error: false,
         status: 200,
@@ -62,24 +62,27 @@ impl Reply {
         if self.status < 200 || self.status > 999 {
             return Err(AllocError);
         }
+        let headers = header_list(alloc, self.fields)?;
         let mut response = Response::text(alloc, self.status, self.body)?;
-        response.set_headers(header_list(alloc, self.fields)?);
+        response.set_headers(headers);
         Ok(response)
     }
 
     /// The response as the plain program is given it.
-    pub(super) fn plain(self, alloc: Global) -> Result<Plain, AllocError> {
+    pub(crate) fn plain(self, alloc: Global) -> Result<Plain, AllocError> {
+        let headers = pairs(alloc, self.fields)?;
+        let body = Octets::of(alloc, self.body.as_bytes())?;
         Ok(Plain {
             status: self.status,
-            headers: pairs(alloc, self.fields)?,
-            body: Octets::of(alloc, self.body.as_bytes())?,
+            headers,
+            body,
         })
     }
 }
 
 /// An error with its response, or want of memory.
 #[derive(Drop)]
-pub(super) struct Failed {
+pub(crate) struct Failed {
     response: Option<Response>,
 }
 
@@ -96,9 +99,9 @@ impl ErrorResponse for Failed {
 
 /// Gives the reply.
 #[derive(Drop)]
-pub(super) struct Giving {
-    pub(super) alloc: Global,
-    pub(super) reply: Reply,
+pub(crate) struct Giving {
+    pub(crate) alloc: Global,
+    pub(crate) reply: Reply,
 }
 
 impl Service<Request> for Giving {

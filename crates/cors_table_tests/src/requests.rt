@@ -1,7 +1,6 @@
 //! The table's requests.
 
-use crate::bytes::lowercase;
-use crate::head::Head;
+use cors_plain::Head;
 use http::method::Method;
 use http_header::HeaderName;
 use http1_plain::{FieldValue, HeaderList, HttpVersion, Request, RequestHead};
@@ -9,11 +8,11 @@ use service_core::{Octets, Peer};
 use std::alloc::{AllocError, Global};
 
 /// A name in any case, and a value.
-pub(super) type Field = (&'static str, &'static [u8]);
+pub(crate) type Field = (&'static str, &'static [u8]);
 
 /// A request.
 #[derive(Clone, Copy)]
-pub(super) enum Asked {
+pub(crate) enum Asked {
     /// The method, and the headers in order.
     By(&'static str, &'static [Field]),
     /// A preflight of `https://a.example` for PUT and for a header whose name is so many times `a`.
@@ -34,7 +33,7 @@ const POST: Field = ("access-control-request-method", b"POST");
 
 const PUT: Field = ("ACCESS-CONTROL-REQUEST-METHOD", b"PUT");
 
-pub(super) const REQUESTS: [Asked; 52] = [
+pub(crate) const REQUESTS: [Asked; 52] = [
     By("GET", &[]),
     By("GET", &[A]),
     By("GET", &[B]),
@@ -168,39 +167,91 @@ pub(super) const REQUESTS: [Asked; 52] = [
 ];
 
 /// A name may have 65,535 bytes.
-pub(super) const LONG_NAMES: [Asked; 2] = [ForLongName(65535), ForLongName(65536)];
+pub(crate) const LONG_NAMES: [Asked; 2] = [ForLongName(65535), ForLongName(65536)];
 
-// A header as the middleware is given it.
-fn append(
-    alloc: Global,
-    list: &mut HeaderList,
-    name: &str,
-    value: &[u8],
-) -> Result<(), AllocError> {
-    let Ok(name) = HeaderName::from_bytes(alloc, name.as_bytes()) else {
-        return Err(AllocError);
-    };
-    let Ok(value) = FieldValue::new(alloc, value) else {
-        return Err(AllocError);
-    };
+fn name_of(alloc: Global, text: &[u8]) -> Result<HeaderName, AllocError> {
+    match HeaderName::from_bytes(alloc, text) {
+        Ok(name) => Ok(name),
+        Err(_) => Err(AllocError),
+    }
+}
+
+fn value_of(alloc: Global, text: &[u8]) -> Result<FieldValue, AllocError> {
+    match FieldValue::new(alloc, text) {
+        Ok(value) => Ok(value),
+        Err(_) => Err(AllocError),
+    }
+}
+
+fn add(list: &mut HeaderList, name: HeaderName, value: FieldValue) -> Result<(), AllocError> {
     list.append(name, value)
 }
 
+fn append_named(
+    alloc: Global,
+    list: &mut HeaderList,
+    name: HeaderName,
+    value: &[u8],
+) -> Result<(), AllocError> {
+    let value = value_of(alloc, value)?;
+    add(list, name, value)
+}
+
+/// One more header as the middleware is given it.
+pub(crate) fn append(
+    alloc: Global,
+    list: &mut HeaderList,
+    name: &[u8],
+    value: &[u8],
+) -> Result<(), AllocError> {
+    let name = name_of(alloc, name)?;
+    append_named(alloc, list, name, value)
+}
+
 /// The headers as the middleware is given them.
-pub(super) fn header_list(alloc: Global, fields: &[Field]) -> Result<HeaderList, AllocError> {
+pub(crate) fn header_list(alloc: Global, fields: &[Field]) -> Result<HeaderList, AllocError> {
     let mut list = HeaderList::new(alloc);
     for (name, value) in fields {
-        append(alloc, &mut list, name, value)?;
+        append(alloc, &mut list, name.as_bytes(), value)?;
     }
     Ok(list)
 }
 
+// The text with each letter in lower case.
+fn lowercase(alloc: Global, text: &[u8]) -> Result<Octets, AllocError> {
+    let mut lower = Vec::new(alloc);
+    for byte in text {
+        lower.push(byte.to_ascii_lowercase())?;
+    }
+    Ok(Octets::from_vec(lower))
+}
+
+fn push_pair(
+    alloc: Global,
+    list: &mut Vec<(Octets, Octets)>,
+    name: &str,
+    value: &[u8],
+) -> Result<(), AllocError> {
+    let name = lowercase(alloc, name.as_bytes())?;
+    push_value(alloc, list, name, value)
+}
+
+fn push_value(
+    alloc: Global,
+    list: &mut Vec<(Octets, Octets)>,
+    name: Octets,
+    value: &[u8],
+) -> Result<(), AllocError> {
+    let value = Octets::of(alloc, value)?;
+    list.push((name, value))?;
+    Ok(())
+}
+
 /// The headers as the plain program is given them.
-pub(super) fn pairs(alloc: Global, fields: &[Field]) -> Result<Vec<(Octets, Octets)>, AllocError> {
+pub(crate) fn pairs(alloc: Global, fields: &[Field]) -> Result<Vec<(Octets, Octets)>, AllocError> {
     let mut list = Vec::new(alloc);
     for (name, value) in fields {
-        let name = lowercase(alloc, name.as_bytes())?;
-        list.push((name, Octets::of(alloc, value)?))?;
+        push_pair(alloc, &mut list, name, value)?;
     }
     Ok(list)
 }
@@ -214,20 +265,54 @@ fn long_name(alloc: Global, count: usize) -> Result<Octets, AllocError> {
     Ok(Octets::from_vec(name))
 }
 
-fn request_of(alloc: Global, method: &str, headers: HeaderList) -> Result<Request, AllocError> {
-    let Ok(method) = Method::from_bytes(alloc, method.as_bytes()) else {
-        return Err(AllocError);
-    };
-    Ok(Request {
+fn method_of(alloc: Global, text: &str) -> Result<Method, AllocError> {
+    match Method::from_bytes(alloc, text.as_bytes()) {
+        Ok(method) => Ok(method),
+        Err(_) => Err(AllocError),
+    }
+}
+
+fn request_by(alloc: Global, method: Method, target: Octets, headers: HeaderList) -> Request {
+    Request {
         head: RequestHead {
             method,
-            target: Octets::of(alloc, b"/")?,
+            target,
             version: HttpVersion::Http11,
             headers,
         },
         body: Octets::new(alloc),
         peer: Peer::Local,
-    })
+    }
+}
+
+fn request_of(alloc: Global, method: &str, headers: HeaderList) -> Result<Request, AllocError> {
+    let method = method_of(alloc, method)?;
+    let target = Octets::of(alloc, b"/")?;
+    Ok(request_by(alloc, method, target, headers))
+}
+
+fn list_with_long_name(alloc: Global, count: usize) -> Result<HeaderList, AllocError> {
+    let name = long_name(alloc, count)?;
+    let mut list = header_list(alloc, &[A, PUT])?;
+    append(
+        alloc,
+        &mut list,
+        b"Access-Control-Request-Headers",
+        name.as_bytes(),
+    )?;
+    Ok(list)
+}
+
+fn pairs_with_long_name(alloc: Global, count: usize) -> Result<Vec<(Octets, Octets)>, AllocError> {
+    let name = long_name(alloc, count)?;
+    let mut list = pairs(alloc, &[A, PUT])?;
+    push_pair(
+        alloc,
+        &mut list,
+        "access-control-request-headers",
+        name.as_bytes(),
+    )?;
+    Ok(list)
 }
 
 fn head_of(
@@ -245,33 +330,20 @@ fn head_of(
 
 impl Asked {
     /// The request as the middleware is given it.
-    pub(super) fn request(self, alloc: Global) -> Result<Request, AllocError> {
+    pub(crate) fn request(self, alloc: Global) -> Result<Request, AllocError> {
         match self {
             By(method, fields) => request_of(alloc, method, header_list(alloc, fields)?),
             ForLongName(count) => {
-                let name = long_name(alloc, count)?;
-                let mut list = header_list(alloc, &[A, PUT])?;
-                append(
-                    alloc,
-                    &mut list,
-                    "Access-Control-Request-Headers",
-                    name.as_bytes(),
-                )?;
-                request_of(alloc, "OPTIONS", list)
+                request_of(alloc, "OPTIONS", list_with_long_name(alloc, count)?)
             }
         }
     }
 
     /// The request's head as the plain program is given it.
-    pub(super) fn head(self, alloc: Global) -> Result<Head, AllocError> {
+    pub(crate) fn head(self, alloc: Global) -> Result<Head, AllocError> {
         match self {
             By(method, fields) => head_of(alloc, method, pairs(alloc, fields)?),
-            ForLongName(count) => {
-                let name = Octets::of(alloc, b"access-control-request-headers")?;
-                let mut list = pairs(alloc, &[A, PUT])?;
-                list.push((name, long_name(alloc, count)?))?;
-                head_of(alloc, "OPTIONS", list)
-            }
+            ForLongName(count) => { head_of(alloc, "OPTIONS", pairs_with_long_name(alloc, count)?) }
         }
     }
 }

@@ -2,17 +2,16 @@
 
 ghost use Rattle.cors_plain.specs.Rules.{allowed_by};
 
-use crate::policy::Policy;
-use crate::rule::Rule;
-use crate::texts::Texts;
-use cors_policy::{Cors, OriginRule};
+use cors_answer::Cors;
+use cors_plain::{Policy, Rule, Texts};
+use cors_policy::OriginRule;
 use cors_rules::AllOrSome;
 use http1_plain::RequestHead;
 use std::alloc::{AllocError, Global};
 
 /// One call of a builder.
 #[derive(Clone, Copy)]
-pub(super) enum Step {
+pub(crate) enum Step {
     Permissive,
     AnyOrigin,
     Origin(&'static str),
@@ -31,11 +30,17 @@ pub(super) enum Step {
     Block,
 }
 
-impl OriginRule for Rule {
-    ghost allowed = { allowed_by };
+/// A rule of the plain program's policies, for the builder.
+#[derive(Clone, Copy, Debug, PartialEq, Eq)]
+pub(crate) struct ByRule {
+    rule: Rule,
+}
+
+impl OriginRule for ByRule {
+    ghost allowed = { λ by origin head. allowed_by by.rule origin head };
 
     fn allows(&self, origin: &[u8], head: &RequestHead) -> bool {
-        match self {
+        match self.rule {
             Rule::UnderExample => origin.ends_with(b".example.org"),
             Rule::OfPosts => head.method.as_str() == "POST",
         }
@@ -43,7 +48,7 @@ impl OriginRule for Rule {
 }
 
 // The builder after the call, where it sets a flag or a number.
-fn flagged(cors: Cors<Rule>, step: Step) -> Cors<Rule> {
+fn flagged(cors: Cors<ByRule>, step: Step) -> Cors<ByRule> {
     match step {
         Step::Age(age) => cors.max_age(age),
         Step::Wildcard => cors.send_wildcard(),
@@ -56,12 +61,12 @@ fn flagged(cors: Cors<Rule>, step: Step) -> Cors<Rule> {
 }
 
 // The builder after the call.
-fn called(alloc: Global, cors: Cors<Rule>, step: Step) -> Result<Cors<Rule>, AllocError> {
+fn called(alloc: Global, cors: Cors<ByRule>, step: Step) -> Result<Cors<ByRule>, AllocError> {
     match step {
         Step::Permissive => Cors::permissive(alloc),
         Step::AnyOrigin => Ok(cors.allow_any_origin()),
         Step::Origin(text) => cors.allowed_origin(text),
-        Step::AlsoBy(rule) => cors.allowed_origin_fn(rule),
+        Step::AlsoBy(rule) => cors.allowed_origin_fn(ByRule { rule }),
         Step::AnyMethod => cors.allow_any_method(),
         Step::Method(text) => cors.allowed_methods(&[text]),
         Step::AnyHeader => Ok(cors.allow_any_header()),
@@ -73,7 +78,7 @@ fn called(alloc: Global, cors: Cors<Rule>, step: Step) -> Result<Cors<Rule>, All
 }
 
 /// The builder after the calls.
-pub(super) fn built(alloc: Global, steps: &[Step]) -> Result<Cors<Rule>, AllocError> {
+pub(crate) fn built(alloc: Global, steps: &[Step]) -> Result<Cors<ByRule>, AllocError> {
     let mut cors = Cors::default(alloc);
     for step in steps {
         cors = called(alloc, cors, *step)?;
@@ -136,7 +141,7 @@ fn with_step(alloc: Global, policy: Policy, step: Step) -> Result<Policy, AllocE
 }
 
 /// The plain policy after the calls.
-pub(super) fn plain(alloc: Global, steps: &[Step]) -> Result<Policy, AllocError> {
+pub(crate) fn plain(alloc: Global, steps: &[Step]) -> Result<Policy, AllocError> {
     let mut policy = Policy::strict(alloc);
     for step in steps {
         policy = with_step(alloc, policy, *step)?;

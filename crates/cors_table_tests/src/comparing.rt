@@ -1,25 +1,19 @@
 //! The middleware's answers beside those of the plain program. `checks/cors-table.py` computes the expected numbers from
 //! the table alone.
 
-use super::inner::{Giving, REPLIES, Reply};
-use super::policies::POLICIES;
-use super::requests::{Asked, LONG_NAMES, REQUESTS};
-use super::steps::{Step, built, plain};
-use super::tally::{Outcome, Place, Tally};
-use crate::answers::answer;
-use crate::head::Head;
-use crate::headers::Header;
-use crate::policy::Policy;
-use crate::requested::is_preflight;
-use crate::response::Response as Plain;
-use crate::rule::Rule;
-use crate::verdict::{Verdict, verdict_on};
-use cors_policy::{CorsFault, CorsInitError, CorsMiddleware};
+use crate::inner::{Giving, REPLIES, Reply};
+use crate::policies::POLICIES;
+use crate::requests::{Asked, LONG_NAMES, REQUESTS, append};
+use crate::steps::{ByRule, Step, built, plain};
+use crate::tally::{Outcome, Place, Tally};
+use cors_answer::{CorsFault, CorsInitError, CorsMiddleware};
+use cors_plain::{
+    Head, Header, Policy, Response as Plain, Verdict, answer, is_preflight, verdict_on,
+};
 use futures::task::Poll;
 use futures::test::MockTask;
 use http::method::Method;
-use http_header::HeaderName;
-use http1_plain::{FieldValue, HeaderList, HttpVersion, Response, write_response};
+use http1_plain::{HeaderList, HttpVersion, Response, write_response};
 use service_core::{Octets, Service, Transform};
 use std::alloc::{AllocError, Global};
 use std::test::Fail;
@@ -34,7 +28,7 @@ fn written(alloc: Global, response: &Response) -> Result<Octets, AllocError> {
 fn asked(
     task: &MockTask,
     alloc: Global,
-    service: &CorsMiddleware<Giving, Rule>,
+    service: &CorsMiddleware<Giving, ByRule>,
     asked: Asked,
 ) -> Result<Outcome, AllocError> {
     let mut future = service.call(asked.request(alloc)?);
@@ -49,13 +43,7 @@ fn asked(
 fn header_list(alloc: Global, pairs: &[Header]) -> Result<HeaderList, AllocError> {
     let mut list = HeaderList::new(alloc);
     for (name, value) in pairs {
-        let Ok(name) = HeaderName::from_bytes(alloc, name.as_bytes()) else {
-            return Err(AllocError);
-        };
-        let Ok(value) = FieldValue::new(alloc, value.as_bytes()) else {
-            return Err(AllocError);
-        };
-        list.append(name, value)?;
+        append(alloc, &mut list, name.as_bytes(), value.as_bytes())?;
     }
     Ok(list)
 }
@@ -65,9 +53,11 @@ fn response_of(alloc: Global, plain: &Plain) -> Result<Response, AllocError> {
     if plain.status < 200 || plain.status > 999 {
         return Err(AllocError);
     }
+    let headers = header_list(alloc, &plain.headers)?;
+    let body = plain.body.copy()?;
     let mut response = Response::new(alloc, plain.status);
-    response.set_headers(header_list(alloc, &plain.headers)?);
-    response.set_body(plain.body.copy()?);
+    response.set_headers(headers);
+    response.set_body(body);
     Ok(response)
 }
 
@@ -78,6 +68,21 @@ fn is_handed_on(verdict: &Verdict) -> bool {
     }
 }
 
+fn plain_text(alloc: Global, plain: &Plain) -> Result<Octets, AllocError> {
+    let response = response_of(alloc, plain)?;
+    written(alloc, &response)
+}
+
+fn plain_answer(
+    alloc: Global,
+    policy: &Policy,
+    head: &Head,
+    reply: Reply,
+) -> Result<Plain, AllocError> {
+    let inner = reply.plain(alloc)?;
+    answer(alloc, policy, head, inner)
+}
+
 // What the plain program answers.
 fn defined(
     alloc: Global,
@@ -86,8 +91,8 @@ fn defined(
     verdict: &Verdict,
     reply: Reply,
 ) -> Result<Outcome, AllocError> {
-    let answered = answer(alloc, policy, head, reply.plain(alloc)?)?;
-    let text = written(alloc, &response_of(alloc, &answered)?)?;
+    let answered = plain_answer(alloc, policy, head, reply)?;
+    let text = plain_text(alloc, &answered)?;
     Ok((reply.is_error && is_handed_on(verdict), text))
 }
 
@@ -103,9 +108,26 @@ struct Site<'a> {
 /// A service under a policy, and the plain policy.
 #[derive(Drop)]
 struct Pair {
-    service: CorsMiddleware<Giving, Rule>,
+    service: CorsMiddleware<Giving, ByRule>,
     policy: Policy,
     reply: Reply,
+}
+
+// Asks the middleware, and counts what the plain program answers.
+fn compare_with(
+    site: &Site,
+    pair: &Pair,
+    request: Asked,
+    place: Place,
+    want: &Outcome,
+    tally: &mut Tally,
+) -> Result<(), AllocError> {
+    let got = asked(site.task, site.alloc, &pair.service, request)?;
+    if got != *want {
+        tally.note_other(place);
+    }
+    tally.digest_answer(want);
+    Ok(())
 }
 
 // Asks both, and counts the answer.
@@ -119,28 +141,34 @@ fn compare(
     let alloc = site.alloc;
     let head = request.head(alloc)?;
     let verdict = verdict_on(alloc, &pair.policy, &head)?;
-    let want = defined(alloc, &pair.policy, &head, &verdict, pair.reply)?;
-    let got = asked(site.task, alloc, &pair.service, request)?;
-    if got != want {
-        tally.note_other(place);
-    }
-    tally.digest_answer(&want);
     tally.count_pair(&verdict, pair.policy.preflight && is_preflight(&head));
-    Ok(())
+    let want = defined(alloc, &pair.policy, &head, &verdict, pair.reply)?;
+    compare_with(site, pair, request, place, &want, tally)
+}
+
+// The service under the policy, or nothing where the policy is refused.
+fn service_of(
+    alloc: Global,
+    steps: &[Step],
+    reply: Reply,
+) -> Result<Option<CorsMiddleware<Giving, ByRule>>, AllocError> {
+    let cors = built(alloc, steps)?;
+    match cors.new_transform(Giving { alloc, reply }).into_inner() {
+        Ok(service) => Ok(Some(service)),
+        Err(CorsInitError::Config(_)) => Ok(None),
+        Err(CorsInitError::Memory) => Err(AllocError),
+    }
 }
 
 // Both under the policy, or nothing where the policy is refused.
 fn pair_of(alloc: Global, steps: &[Step], reply: Reply) -> Result<Option<Pair>, AllocError> {
-    let cors = built(alloc, steps)?;
-    let policy = plain(alloc, steps)?;
-    match cors.new_transform(Giving { alloc, reply }).into_inner() {
-        Ok(service) => Ok(Some(Pair {
+    match service_of(alloc, steps, reply)? {
+        Some(service) => Ok(Some(Pair {
             service,
-            policy,
+            policy: plain(alloc, steps)?,
             reply,
         })),
-        Err(CorsInitError::Config(_)) => Ok(None),
-        Err(CorsInitError::Memory) => Err(AllocError),
+        None => Ok(None),
     }
 }
 
@@ -180,6 +208,11 @@ fn table(site: &Site) -> Result<Tally, AllocError> {
         compare_policy(site, number, steps, &mut tally)?;
     }
     Ok(tally)
+}
+
+// Whether the table has these counts and this digest.
+fn has_tally(site: &Site, expected: &Tally) -> Result<bool, AllocError> {
+    Ok(table(site)? == *expected)
 }
 
 // How often each kind of answer comes, and the digest of all answers. Both were computed from the table alone, by a program
@@ -225,7 +258,7 @@ fn the_middleware_answers_each_pair_by_the_definition(rt: HostRuntime) -> Result
         replies: &REPLIES,
         requests: &REQUESTS,
     };
-    assert_eq!(rt; table(&site)?, EXPECTED);
+    assert!(rt; has_tally(&site, &EXPECTED)?);
     Ok(())
 }
 
@@ -239,6 +272,6 @@ fn names_at_the_limit_of_their_length_are_answered_by_the_definition(
         replies: &REPLIES[..1],
         requests: &LONG_NAMES,
     };
-    assert_eq!(rt; table(&site)?, EXPECTED_OF_LONG_NAMES);
+    assert!(rt; has_tally(&site, &EXPECTED_OF_LONG_NAMES)?);
     Ok(())
 }

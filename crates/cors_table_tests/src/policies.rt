@@ -1,13 +1,13 @@
 //! The table's policies.
 
-use super::steps::Step;
-use super::steps::Step::{
+use crate::steps::Step;
+use crate::steps::Step::{
     Age, AlsoBy, AnyHeader, AnyMethod, AnyOrigin, Block, Credentials, Expose, ExposeAny, Header,
     Method, NoPreflight, NoVary, Origin, Permissive, Wildcard,
 };
-use crate::rule::Rule::{OfPosts, UnderExample};
+use cors_plain::Rule::{OfPosts, UnderExample};
 
-pub(super) const POLICIES: [&[Step]; 31] = [
+pub(crate) const POLICIES: [&[Step]; 31] = [
     &[],
     &[Origin("https://a.example")],
     &[Origin("https://a.example"), Block],

@@ -1,32 +1,32 @@
 //! How often each kind of answer came.
 
-use crate::verdict::Verdict;
+use cors_plain::Verdict;
 use cors_rules::CorsError;
 use service_core::Octets;
 
 /// An answer's bytes, and whether it is an error's.
-pub(super) type Outcome = (bool, Octets);
+pub(crate) type Outcome = (bool, Octets);
 
 /// The numbers of a policy, a reply and a request in the table.
-pub(super) type Place = (usize, usize, usize);
+pub(crate) type Place = (usize, usize, usize);
 
 /// How often each kind of answer came, and where the middleware's answer was first another than that of the plain program.
-#[derive(Clone, Copy, Debug, PartialEq, Eq, Default)]
-pub(super) struct Tally {
-    pub(super) pairs: u32,
-    pub(super) first_other: Option<Place>,
+#[derive(Clone, Copy, PartialEq, Eq, Default)]
+pub(crate) struct Tally {
+    pub(crate) pairs: u32,
+    pub(crate) first_other: Option<Place>,
     /// Of the bytes of all answers, one after another.
-    pub(super) digest: u32,
-    pub(super) granted: u32,
-    pub(super) not_granted: u32,
-    pub(super) preflights: u32,
-    pub(super) no_origin: u32,
-    pub(super) origin_not_allowed: u32,
-    pub(super) method_not_allowed: u32,
-    pub(super) bad_headers: u32,
-    pub(super) headers_not_allowed: u32,
-    pub(super) blocked: u32,
-    pub(super) other_refusals: u32,
+    pub(crate) digest: u32,
+    pub(crate) granted: u32,
+    pub(crate) not_granted: u32,
+    pub(crate) preflights: u32,
+    pub(crate) no_origin: u32,
+    pub(crate) origin_not_allowed: u32,
+    pub(crate) method_not_allowed: u32,
+    pub(crate) bad_headers: u32,
+    pub(crate) headers_not_allowed: u32,
+    pub(crate) blocked: u32,
+    pub(crate) other_refusals: u32,
 }
 
 const ERRORS: [CorsError; 8] = [
@@ -60,7 +60,7 @@ fn and_byte(digest: u32, byte: u8) -> u32 {
 
 impl Tally {
     /// One more answer goes into the digest: its bytes, and 1 where it is an error's.
-    pub(super) fn digest_answer(&mut self, outcome: &Outcome) {
+    pub(crate) fn digest_answer(&mut self, outcome: &Outcome) {
         let mut digest = self.digest;
         for byte in outcome.1.as_bytes() {
             digest = and_byte(digest, *byte);
@@ -89,7 +89,7 @@ impl Tally {
     }
 
     /// One more pair, with what becomes of the request.
-    pub(super) fn count_pair(&mut self, verdict: &Verdict, is_preflight: bool) {
+    pub(crate) fn count_pair(&mut self, verdict: &Verdict, is_preflight: bool) {
         count(&mut self.pairs);
         match verdict {
             Verdict::HandedOn(None) => count(&mut self.not_granted),
@@ -108,7 +108,7 @@ impl Tally {
     }
 
     /// The middleware's answer at the place is another than that of the plain program.
-    pub(super) fn note_other(&mut self, place: Place) {
+    pub(crate) fn note_other(&mut self, place: Place) {
         if self.first_other.is_none() {
             self.first_other = Some(place);
         }

@@ -1,0 +1,17 @@
+//! Tests of policies on cross-origin requests, of their builders and of the middleware that keeps them.
+#![tactic(auto)]
+
+#[cfg(test)]
+mod asking;
+#[cfg(test)]
+mod building;
+#[cfg(test)]
+mod empty_answers;
+#[cfg(test)]
+mod inner;
+#[cfg(test)]
+mod policies;
+#[cfg(test)]
+mod requests;
+#[cfg(test)]
+mod sets;
