@@ -110,7 +110,7 @@ fn rust_lang_origins(alloc: Global) -> Result<Cors<RustLang>, AllocError> {
     by_rust_lang(after(alloc, Cors::default(alloc), &calls)?)
 }
 
-const TWO_METHODS: [Call; 3] = [
+const MORE_ALLOWED: [Call; 3] = [
     Methods(&["GET", "POST"]),
     Headers(&["authorization", "accept", "content-type"]),
     Age(Some(3600)),
@@ -118,7 +118,7 @@ const TWO_METHODS: [Call; 3] = [
 
 // The same, with two methods and three headers.
 fn rust_lang(alloc: Global) -> Result<Cors<RustLang>, AllocError> {
-    after(alloc, rust_lang_origins(alloc)?, &TWO_METHODS)
+    after(alloc, rust_lang_origins(alloc)?, &MORE_ALLOWED)
 }
 
 // Whether these parts answer a request under that policy.
