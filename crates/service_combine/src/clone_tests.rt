@@ -4,12 +4,11 @@ ghost use Rattle.std.proofs.Common.{rules};
 ghost use Rattle.futures.specs.declared.task.Poll.TheVariants.{Ready as PollReady};
 
 use crate::test_factories::{Denial, Telling, served};
-use crate::test_services::answer;
 use crate::{
-    Apply, ApplyConfigService, ApplyConfigServiceFactory, ApplyFactory, FnServiceConfig,
-    FnServiceNoConfig, MapConfig, ServiceExt, ServiceFactoryExt, apply_cfg, apply_cfg_factory,
-    apply_fn, apply_fn_factory, fn_factory, fn_factory_with_config, map_config, pipeline,
-    pipeline_factory, unit_config,
+    ApplyConfigService, ApplyConfigServiceFactory, ApplyFactory, FnServiceConfig,
+    FnServiceNoConfig, MapConfig, ServiceFactoryExt, apply_cfg, apply_cfg_factory,
+    apply_fn_factory, fn_factory, fn_factory_with_config, map_config, pipeline_factory,
+    unit_config,
 };
 use futures::task::{Context, Poll};
 use futures::test::MockTask;
@@ -43,34 +42,6 @@ impl Service<u32> for Halving {
     fn call(&self, req: u32) -> Ready<Result<u32, AllocError>> {
         ok(req / 2)
     }
-}
-
-#[test]
-fn copies_of_changed_services_answer_as_their_originals(rt: HostRuntime) -> Result<(), Fail> {
-    let task = MockTask::new(&rt)?;
-    let alloc = rt.alloc();
-    let echo = fn_service(alloc, |n: u32| ok::<u32, AllocError>(n))?;
-    let mapped = ServiceExt::map(echo.clone()?, alloc, |n: u32| n / 2)?;
-    assert_eq!(rt; answer(&task, mapped.clone()?, 8), Poll::Ready(Ok(4)));
-    let erring = ServiceExt::map_err(echo.clone()?, alloc, |e: AllocError| e)?;
-    assert_eq!(rt; answer(&task, erring.clone()?, 8), Poll::Ready(Ok(8)));
-    let begun = pipeline(echo);
-    assert_eq!(rt; answer(&task, begun.clone()?, 8), Poll::Ready(Ok(8)));
-    Ok(())
-}
-
-#[test]
-fn a_copy_of_apply_answers_as_its_original(rt: HostRuntime) -> Result<(), Fail> {
-    let task = MockTask::new(&rt)?;
-    let alloc = rt.alloc();
-    let echo = fn_service(alloc, |n: u32| ok::<u32, AllocError>(n))?;
-    let wrapped: Apply<_, _, u32, u32, u32, AllocError> = apply_fn(
-        alloc,
-        echo,
-        |n: u32, _: &_| ok::<u32, AllocError>(n / 4),
-    )?;
-    assert_eq!(rt; answer(&task, wrapped.clone()?, 8), Poll::Ready(Ok(2)));
-    Ok(())
 }
 
 #[test]

@@ -22,8 +22,6 @@ mod factory_tests;
 mod fn_service_config;
 mod fn_service_no_config;
 mod half;
-#[cfg(test)]
-mod law_tests;
 pub mod laws;
 mod made_ready;
 mod making;
@@ -43,12 +41,8 @@ mod pipeline_service;
 mod pipeline_service_factory;
 #[cfg(test)]
 mod pipeline_tests;
-#[cfg(test)]
-mod program_tests;
 mod service_ext;
 mod service_factory_ext;
-#[cfg(test)]
-mod service_tests;
 #[cfg(test)]
 mod test_factories;
 #[cfg(test)]

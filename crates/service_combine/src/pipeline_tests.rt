@@ -4,10 +4,9 @@ use crate::test_factories::{
     readied, scored, served,
 };
 use crate::test_services::{
-    Counting, Echo, Failure, Fault, Faulty, Obeying, Summing, Tagging, Tally, Unready, Word,
-    answer, readiness,
+    Echo, Failure, Fault, Faulty, Obeying, Summing, Tagging, Unready, Word,
 };
-use crate::{Pipeline, PipelineFactory, pipeline, pipeline_factory};
+use crate::{PipelineFactory, pipeline_factory};
 use futures::task::Poll;
 use futures::test::MockTask;
 use std::cell::Cell;
@@ -16,38 +15,12 @@ use std::sync::Arc;
 use std::test::Fail;
 
 #[test]
-fn a_pipeline_maps_responses(rt: HostRuntime) -> Result<(), Fail> {
-    let task = MockTask::new(&rt)?;
-    let chain: Pipeline<Echo, ()> = pipeline(Echo);
-    let mapped = chain.map(rt.alloc(), |_: ()| "ok")?;
-    assert_eq!(rt; answer(&task, &mapped, ()), Poll::Ready(Ok("ok")));
-    assert_eq!(rt; readiness(&task, &mapped), Poll::Ready(Ok(())));
-    Ok(())
-}
-
-#[test]
 fn a_pipeline_of_factories_maps_responses(rt: HostRuntime) -> Result<(), Fail> {
     let task = MockTask::new(&rt)?;
     let chain: PipelineFactory<_, ()> = pipeline_factory(copies(Echo));
     let mapped = chain.map(rt.alloc(), |_: ()| "ok")?;
     assert_eq!(rt; served(&task, &mapped, 1u32, ()), Some(Ok("ok")));
     assert_eq!(rt; readied(&task, &mapped, 1), Some(Poll::Ready(Ok(()))));
-    Ok(())
-}
-
-#[test]
-fn a_pipeline_maps_errors(rt: HostRuntime) -> Result<(), Fail> {
-    let task = MockTask::new(&rt)?;
-    let chain: Pipeline<Faulty, ()> = pipeline(Faulty { fault: Fault::Bad });
-    let mapped = chain.map_err(rt.alloc(), |_| Failure::Mapped)?;
-    assert_eq!(rt;
-        answer(&task, &mapped, ()),
-        Poll::Ready(Err(Failure::Mapped))
-    );
-    assert_eq!(rt;
-        readiness(&task, &mapped),
-        Poll::Ready(Err(Failure::Mapped))
-    );
     Ok(())
 }
 
@@ -80,24 +53,6 @@ fn a_pipeline_of_factories_maps_what_comes_in_place_of_a_service(
 }
 
 #[test]
-fn a_pipeline_hands_each_response_on(rt: HostRuntime) -> Result<(), Fail> {
-    let task = MockTask::new(&rt)?;
-    let (one, two) = (Tally::new(), Tally::new());
-    let chain: Pipeline<_, Word> = pipeline(Counting::over(Echo, &one));
-    let both = chain.and_then(
-        rt.alloc(),
-        Counting::over(Tagging { tag: Word::Srv2 }, &two),
-    )?;
-    assert_eq!(rt;
-        answer(&task, &both, Word::Srv1),
-        Poll::Ready(Ok((Word::Srv1, Word::Srv2)))
-    );
-    assert_eq!(rt; readiness(&task, &both), Poll::Ready(Ok(())));
-    assert_eq!(rt; (one.polls.get(), two.polls.get()), (1, 1));
-    Ok(())
-}
-
-#[test]
 fn a_pipeline_of_factories_hands_each_response_on(rt: HostRuntime) -> Result<(), Fail> {
     let task = MockTask::new(&rt)?;
     let one = Rc::new(rt.alloc(), Cell::new(0))?;
@@ -112,28 +67,6 @@ fn a_pipeline_of_factories_hands_each_response_on(rt: HostRuntime) -> Result<(),
     );
     assert_eq!(rt; readied(&task, &both, 1), Some(Poll::Ready(Ok(()))));
     assert_eq!(rt; (one.get(), two.get()), (1, 1));
-    Ok(())
-}
-
-#[test]
-fn a_pipeline_hands_each_result_on(rt: HostRuntime) -> Result<(), Fail> {
-    let task = MockTask::new(&rt)?;
-    let (one, two) = (Tally::new(), Tally::new());
-    let chain: Pipeline<_, Result<Word, Fault>> = pipeline(Counting::over(Obeying, &one));
-    let both = chain.then(
-        rt.alloc(),
-        Counting::over(Unready { service: Summing }, &two),
-    )?;
-    assert_eq!(rt;
-        answer(&task, &both, Ok(Word::Srv1)),
-        Poll::Ready(Ok((Word::Srv1, Word::Fine)))
-    );
-    assert_eq!(rt;
-        answer(&task, &both, Err(Fault::Bad)),
-        Poll::Ready(Ok((Word::Srv2, Word::Failed)))
-    );
-    assert_eq!(rt; readiness(&task, &both), Poll::Ready(Err(Fault::Bad)));
-    assert_eq!(rt; (one.polls.get(), two.polls.get()), (1, 1));
     Ok(())
 }
 
@@ -204,18 +137,6 @@ fn then_takes_a_configuration_without_clones_for_want_of_memory(
     let chain: PipelineFactory<_, u32> = pipeline_factory(copies(Echo));
     let both = chain.then(rt.alloc(), copies(Obeying))?;
     assert_eq!(rt; denied(&task, &both, Single), Some(Denial::Memory));
-    Ok(())
-}
-
-#[test]
-fn a_pipeline_answers_the_same_where_it_is_shared(rt: HostRuntime) -> Result<(), Fail> {
-    let task = MockTask::new(&rt)?;
-    let alloc = rt.alloc();
-    let chain: Pipeline<Echo, u32> = pipeline(Echo);
-    let counted = Rc::new(alloc, chain.map(alloc, |x: u32| x / 2)?)?;
-    assert_eq!(rt; answer(&task, &counted, 8), Poll::Ready(Ok(4)));
-    let shared = Arc::new(alloc, counted)?;
-    assert_eq!(rt; answer(&task, &shared, 8), Poll::Ready(Ok(4)));
     Ok(())
 }
 

@@ -1,0 +1,25 @@
+//! Pipelines that are built of any parts, and asked.
+use crate::questions::{Question, all_hold};
+use futures::test::MockTask;
+use service_combine::pipeline;
+use service_core::{NoMemory, Service};
+use std::alloc::{AllocError, Global};
+
+/// Whether a pipeline of two services answers so, one behind the other.
+pub(crate) fn chained<A, B, Req>(
+    task: &MockTask,
+    alloc: Global,
+    parts: (A, B),
+    questions: &[Question<Req, B::Response, A::Error>],
+) -> Result<bool, AllocError>
+where
+    A: Service<Req, Error: PartialEq + NoMemory> + Drop,
+    B: Service<A::Response, Response: PartialEq + Drop, Error = A::Error> + Drop,
+    Req: Copy,
+    requires first { A.can_call parts.0 }
+    requires second { B.can_call parts.1 }
+{
+    let (first, second) = parts;
+    let both = pipeline(first).and_then(alloc, second)?;
+    all_hold(task, alloc, &both, questions)
+}
