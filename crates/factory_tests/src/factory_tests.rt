@@ -1,0 +1,192 @@
+//! What the combinators of factories make.
+
+use crate::asking::{Bench, each_way, once};
+use crate::changing::{excused, mapped, renamed};
+use crate::makers::{Passing, Tags, copies, copies_late, denies, denies_late, scored};
+use crate::making::Asked;
+use crate::naming::{excuse, failure, half, ok_of, same};
+use crate::pairing::{handed, paired};
+use crate::services::{Echo, Faulty, Obeying, Tagging};
+use crate::transforms::excused_transform;
+use crate::words::{Denial, Failure, Fault, Mark, Single, Word};
+use std::cell::Cell;
+use std::test::Fail;
+
+#[test]
+fn map_changes_the_responses_of_made_services(rt: HostRuntime) -> Result<(), Fail> {
+    let bench = Bench::new(&rt)?;
+    let answer = Asked::Served((), Ok("ok"));
+    assert!(rt; mapped(&bench, (copies(Echo), ok_of), &once(1u32), answer)?);
+    let readiness: Asked<(), _, _, _> = Asked::Readied(Ok(()));
+    assert!(rt; mapped(&bench, (copies(Echo), ok_of), &once(1u32), readiness)?);
+    Ok(())
+}
+
+#[test]
+fn map_leaves_the_errors_of_made_services(rt: HostRuntime) -> Result<(), Fail> {
+    let bench = Bench::new(&rt)?;
+    let faulty = Faulty { fault: Fault::Bad };
+    let answer = Asked::Served((), Err(Fault::Bad));
+    assert!(rt; mapped(&bench, (copies(faulty), ok_of), &once(1u32), answer)?);
+    let readiness: Asked<(), _, _, _> = Asked::Readied(Err(Fault::Bad));
+    assert!(rt; mapped(&bench, (copies(faulty), ok_of), &once(1u32), readiness)?);
+    Ok(())
+}
+
+#[test]
+fn map_err_changes_the_errors_of_made_services(rt: HostRuntime) -> Result<(), Fail> {
+    let bench = Bench::new(&rt)?;
+    let faulty = Faulty { fault: Fault::Bad };
+    let answer = Asked::Served((), Err(Failure::Mapped));
+    assert!(rt; renamed(&bench, (copies(faulty), failure), &once(1u32), answer)?);
+    let readiness: Asked<(), _, _, _> = Asked::Readied(Err(Failure::Mapped));
+    assert!(rt; renamed(&bench, (copies(faulty), failure), &once(1u32), readiness)?);
+    Ok(())
+}
+
+#[test]
+fn map_err_leaves_the_responses_of_made_services(rt: HostRuntime) -> Result<(), Fail> {
+    let bench = Bench::new(&rt)?;
+    let answer = Asked::Served(7u32, Ok(7));
+    assert!(rt; renamed(&bench, (copies(Echo), failure), &once(1u32), answer)?);
+    let readiness: Asked<u32, _, _, _> = Asked::Readied(Ok(()));
+    assert!(rt; renamed(&bench, (copies(Echo), failure), &once(1u32), readiness)?);
+    Ok(())
+}
+
+#[test]
+fn and_then_makes_a_service_of_both_parts(rt: HostRuntime) -> Result<(), Fail> {
+    let bench = Bench::new(&rt)?;
+    let (one, two) = (Cell::new(0), Cell::new(0));
+    let second = Tagging { tag: Word::Srv2 };
+    let answer = Asked::Served(Word::Srv1, Ok((Word::Srv1, Word::Srv2)));
+    let parts = (scored(Echo, &one), scored(second, &two));
+    assert!(rt; paired(&bench, parts, &once(1), &answer)?);
+    let readiness: Asked<Word, _, _, _> = Asked::Readied(Ok(()));
+    let parts = (scored(Echo, &one), scored(second, &two));
+    assert!(rt; paired(&bench, parts, &once(1), &readiness)?);
+    assert!(rt; one.get() == 1 && two.get() == 1);
+    Ok(())
+}
+
+/// Whether a pair is made in so many polls, where its parts wait so often.
+fn is_made_in(bench: &Bench, waits: (u32, u32), polls: u32) -> Result<bool, Fail> {
+    let asked: Asked<u32, _, _, _> = Asked::Polls(polls);
+    let parts = (copies_late(waits.0, Echo), copies_late(waits.1, Echo));
+    Ok(paired(bench, parts, &once(1u32), &asked)?)
+}
+
+#[test]
+fn a_pair_is_made_in_as_many_polls_as_its_slower_part(rt: HostRuntime) -> Result<(), Fail> {
+    let bench = Bench::new(&rt)?;
+    assert!(rt; is_made_in(&bench, (0, 0), 1)?);
+    assert!(rt; is_made_in(&bench, (1, 1), 2)?);
+    assert!(rt; is_made_in(&bench, (1, 2), 3)?);
+    assert!(rt; is_made_in(&bench, (2, 0), 3)?);
+    Ok(())
+}
+
+#[test]
+fn the_first_making_errs_before_the_second(rt: HostRuntime) -> Result<(), Fail> {
+    let bench = Bench::new(&rt)?;
+    let first: Asked<u32, _, _, _> = Asked::Denied(Denial::First);
+    let both = (denies(Denial::First), denies(Denial::Second));
+    assert!(rt; paired(&bench, both, &once(1u32), &first)?);
+    let second: Asked<u32, _, _, _> = Asked::Denied(Denial::Second);
+    let late = (copies_late(1, Echo), denies(Denial::Second));
+    assert!(rt; paired(&bench, late, &once(1u32), &second)?);
+    let slow = (denies_late(1, Denial::First), denies(Denial::Second));
+    assert!(rt; paired(&bench, slow, &once(1u32), &second)?);
+    Ok(())
+}
+
+#[test]
+fn the_first_part_gets_a_clone_of_the_configuration(rt: HostRuntime) -> Result<(), Fail> {
+    let bench = Bench::new(&rt)?;
+    let answer = Asked::Served(7u32, Ok(((7, Word::Srv2), Word::Srv)));
+    let mark = once(Mark { word: Word::Srv });
+    assert!(rt; paired(&bench, (Tags, Tags), &mark, &answer)?);
+    Ok(())
+}
+
+#[test]
+fn a_configuration_without_clones_is_want_of_memory(rt: HostRuntime) -> Result<(), Fail> {
+    let bench = Bench::new(&rt)?;
+    let memory: Asked<u32, _, _, _> = Asked::Denied(Denial::Memory);
+    assert!(rt; paired(&bench, (copies(Echo), copies(Echo)), &once(Single), &memory)?);
+    Ok(())
+}
+
+#[test]
+fn map_init_err_changes_what_comes_in_place_of_a_service(rt: HostRuntime) -> Result<(), Fail> {
+    let bench = Bench::new(&rt)?;
+    let denial: Asked<u32, _, _, _> = Asked::Denied(Failure::Mapped);
+    assert!(rt; excused(&bench, (denies(Denial::First), excuse), &once(1u32), denial)?);
+    let answer = Asked::Served(7u32, Ok(7));
+    assert!(rt; excused(&bench, (copies(Echo), excuse), &once(1u32), answer)?);
+    Ok(())
+}
+
+#[test]
+fn parts_that_cannot_be_shared_are_want_of_memory(rt: HostRuntime) -> Result<(), Fail> {
+    let bench = Bench::new(&rt)?;
+    let memory: Asked<u32, _, _, _> = Asked::Denied(Denial::Memory);
+    assert!(rt; paired(&bench, (copies(Echo), copies(Echo)), &once(Single), &memory)?);
+    assert!(rt;
+        handed(
+            &bench,
+            (copies(Echo), copies(Obeying)),
+            &once(Single),
+            &memory
+        )?
+    );
+    Ok(())
+}
+
+#[test]
+fn a_making_that_waits_can_be_dropped(rt: HostRuntime) -> Result<(), Fail> {
+    let bench = Bench::new(&rt)?;
+    let waits: Asked<u32, _, _, _> = Asked::Waits;
+    assert!(rt; mapped(&bench, (copies_late(1, Echo), half), &once(1u32), waits)?);
+    let waits: Asked<u32, _, _, _> = Asked::Waits;
+    assert!(rt; renamed(&bench, (copies_late(1, Echo), failure), &once(1u32), waits)?);
+    let waits: Asked<u32, _, _, _> = Asked::Waits;
+    assert!(rt; excused(&bench, (copies_late(1, Echo), excuse), &once(1u32), waits)?);
+    let waits: Asked<u32, _, _, _> = Asked::Waits;
+    assert!(rt;
+        paired(
+            &bench,
+            (copies_late(1, Echo), copies(Echo)),
+            &once(1u32),
+            &waits
+        )?
+    );
+    assert!(rt; wrapping_waits(&bench)?);
+    Ok(())
+}
+
+/// Whether the wrapping of a service that comes late is pending. It is dropped then.
+fn wrapping_waits(bench: &Bench) -> Result<bool, Fail> {
+    Ok(excused_transform(bench, (Passing { waits: 1 }, excuse), Asked::Waits)?)
+}
+
+#[test]
+fn each_factory_makes_the_same_each_way(rt: HostRuntime) -> Result<(), Fail> {
+    let bench = Bench::new(&rt)?;
+    let four = Asked::Served(8u32, Ok(4));
+    assert!(rt; mapped(&bench, (copies(Echo), half), &each_way(1u32), four)?);
+    let eight = Asked::Served(8u32, Ok(8));
+    assert!(rt; renamed(&bench, (copies(Echo), same), &each_way(1u32), eight)?);
+    let eight = Asked::Served(8u32, Ok(8));
+    assert!(rt; excused(&bench, (copies(Echo), excuse), &each_way(1u32), eight)?);
+    let eight = Asked::Served(8u32, Ok(8));
+    assert!(rt;
+        paired(
+            &bench,
+            (copies(Echo), copies(Echo)),
+            &each_way(1u32),
+            &eight
+        )?
+    );
+    Ok(())
+}

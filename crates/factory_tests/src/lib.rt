@@ -1,0 +1,33 @@
+//! Tests of the combinators of factories and of transforms, of configurations and of copies.
+#![tactic(auto)]
+
+#[cfg(test)]
+mod asking;
+#[cfg(test)]
+mod changing;
+#[cfg(test)]
+mod config_tests;
+#[cfg(test)]
+mod configuring;
+#[cfg(test)]
+mod copy_tests;
+#[cfg(test)]
+mod factory_tests;
+#[cfg(test)]
+mod makers;
+#[cfg(test)]
+mod making;
+#[cfg(test)]
+mod naming;
+#[cfg(test)]
+mod pairing;
+#[cfg(test)]
+mod pipeline_tests;
+#[cfg(test)]
+mod services;
+#[cfg(test)]
+mod transform_tests;
+#[cfg(test)]
+mod transforms;
+#[cfg(test)]
+mod words;
