@@ -6,7 +6,8 @@ use crate::test_link::Way;
 use futures::test::MockTask;
 use http_plain::answers_one;
 use service_core::{How, Octets};
-use std::alloc::{AllocError, Global};
+use std::alloc::{AllocError, AllocGlobal, Global};
+use std::random::RandomSource;
 use std::test::Fail;
 
 // Heads as RFC 9112 writes them, of which some ask for what isn't served, and some have more behind them.
@@ -143,58 +144,69 @@ fn is_by_definition_anywhere(
     Ok(true)
 }
 
+// Whether the head is answered by the definition as it stands, or with such a damage at each byte.
+fn is_by_definition_so(
+    task: &MockTask,
+    alloc: Global,
+    damage: Option<Damage>,
+    head: &[u8],
+) -> Result<bool, AllocError> {
+    match damage {
+        None => is_by_definition(task, alloc, head),
+        Some(damage) => is_by_definition_anywhere(task, alloc, damage, head),
+    }
+}
+
 // The same for each head.
-fn are_by_definition(task: &MockTask, alloc: Global, damage: Damage) -> Result<bool, AllocError> {
+fn are_by_definition(
+    task: &MockTask,
+    alloc: Global,
+    damage: Option<Damage>,
+) -> Result<bool, AllocError> {
     for head in HEADS {
-        if !is_by_definition_anywhere(task, alloc, damage, head)? {
+        if !is_by_definition_so(task, alloc, damage, head)? {
             return Ok(false);
         }
     }
     Ok(true)
 }
 
-// Whether each head is answered by the definition as it stands.
-fn whole_are_by_definition(task: &MockTask, alloc: Global) -> Result<bool, AllocError> {
-    for head in HEADS {
-        if !is_by_definition(task, alloc, head)? {
-            return Ok(false);
-        }
-    }
-    Ok(true)
+// The same, with a task of its own.
+fn by_definition<R: RandomSource + AllocGlobal>(
+    rt: &R,
+    damage: Option<Damage>,
+) -> Result<bool, Fail> {
+    let task = MockTask::new(rt)?;
+    Ok(are_by_definition(&task, rt.alloc(), damage)?)
 }
 
 #[test]
 fn heads_are_answered_by_the_definition(rt: HostRuntime) -> Result<(), Fail> {
-    let task = MockTask::new(&rt)?;
-    assert!(rt; whole_are_by_definition(&task, rt.alloc())?);
+    assert!(rt; by_definition(&rt, None)?);
     Ok(())
 }
 
 #[test]
 fn heads_cut_anywhere_are_answered_by_the_definition(rt: HostRuntime) -> Result<(), Fail> {
-    let task = MockTask::new(&rt)?;
-    assert!(rt; are_by_definition(&task, rt.alloc(), Damage::Cut)?);
+    assert!(rt; by_definition(&rt, Some(Damage::Cut))?);
     Ok(())
 }
 
 #[test]
 fn heads_with_a_byte_replaced_are_answered_by_the_definition(rt: HostRuntime) -> Result<(), Fail> {
-    let task = MockTask::new(&rt)?;
-    assert!(rt; are_by_definition(&task, rt.alloc(), Damage::Replaced)?);
+    assert!(rt; by_definition(&rt, Some(Damage::Replaced))?);
     Ok(())
 }
 
 #[test]
 fn heads_with_a_byte_dropped_are_answered_by_the_definition(rt: HostRuntime) -> Result<(), Fail> {
-    let task = MockTask::new(&rt)?;
-    assert!(rt; are_by_definition(&task, rt.alloc(), Damage::Dropped)?);
+    assert!(rt; by_definition(&rt, Some(Damage::Dropped))?);
     Ok(())
 }
 
 #[test]
 fn heads_with_a_byte_doubled_are_answered_by_the_definition(rt: HostRuntime) -> Result<(), Fail> {
-    let task = MockTask::new(&rt)?;
-    assert!(rt; are_by_definition(&task, rt.alloc(), Damage::Doubled)?);
+    assert!(rt; by_definition(&rt, Some(Damage::Doubled))?);
     Ok(())
 }
 
@@ -224,9 +236,18 @@ fn are_answered(
     Ok(true)
 }
 
+// The same, with a task of its own.
+fn answered<R: RandomSource + AllocGlobal>(
+    rt: &R,
+    rows: &[&[u8]],
+    text: &[u8],
+) -> Result<bool, Fail> {
+    let task = MockTask::new(rt)?;
+    Ok(are_answered(&task, rt.alloc(), rows, text)?)
+}
+
 #[test]
 fn lines_may_end_in_lf_and_values_may_have_white_space(rt: HostRuntime) -> Result<(), Fail> {
-    let task = MockTask::new(&rt)?;
     let rows: [&[u8]; 6] = [
         b"GET /a HTTP/1.1\n\n",
         b"GET /a HTTP/1.1\nHost: x\r\n\n",
@@ -235,13 +256,12 @@ fn lines_may_end_in_lf_and_values_may_have_white_space(rt: HostRuntime) -> Resul
         b"GET /a HTTP/1.1\r\nHost: \t x\t \r\n\r\n",
         b"GET /a HTTP/1.1\r\nX:\r\nX: \xa0\r\n\r\n",
     ];
-    assert!(rt; are_answered(&task, rt.alloc(), &rows, OK)?);
+    assert!(rt; answered(&rt, &rows, OK)?);
     Ok(())
 }
 
 #[test]
 fn a_request_line_has_three_parts_and_single_spaces(rt: HostRuntime) -> Result<(), Fail> {
-    let task = MockTask::new(&rt)?;
     let rows: [&[u8]; 11] = [
         b"GET HTTP/1.1\r\n\r\n",
         b"GET  /a HTTP/1.1\r\n\r\n",
@@ -255,13 +275,12 @@ fn a_request_line_has_three_parts_and_single_spaces(rt: HostRuntime) -> Result<(
         b"GET /\x7f HTTP/1.1\r\n\r\n",
         b"GET /\xc3 HTTP/1.1\r\n\r\n",
     ];
-    assert!(rt; are_answered(&task, rt.alloc(), &rows, REFUSED)?);
+    assert!(rt; answered(&rt, &rows, REFUSED)?);
     Ok(())
 }
 
 #[test]
 fn a_field_line_is_a_token_and_a_value_without_controls(rt: HostRuntime) -> Result<(), Fail> {
-    let task = MockTask::new(&rt)?;
     let rows: [&[u8]; 8] = [
         b"GET /a HTTP/1.1\r\nHost : x\r\n\r\n",
         b"GET /a HTTP/1.1\r\nHost\r\n\r\n",
@@ -272,25 +291,23 @@ fn a_field_line_is_a_token_and_a_value_without_controls(rt: HostRuntime) -> Resu
         b"GET /a HTTP/1.1\r\nX: \0\r\n\r\n",
         b"GET /a HTTP/1.1\r\nX(y): z\r\n\r\n",
     ];
-    assert!(rt; are_answered(&task, rt.alloc(), &rows, REFUSED)?);
+    assert!(rt; answered(&rt, &rows, REFUSED)?);
     Ok(())
 }
 
 #[test]
 fn methods_are_case_sensitive_and_names_are_not(rt: HostRuntime) -> Result<(), Fail> {
-    let task = MockTask::new(&rt)?;
     let rows: [&[u8]; 3] = [
         b"get /a HTTP/1.1\r\n\r\n",
         b"GET /a HTTP/1.1\r\nCONNECTION: x\r\n\r\n",
         b"GET /a HTTP/1.1\r\nupGRADE: h2c\r\n\r\n",
     ];
-    assert!(rt; are_answered(&task, rt.alloc(), &rows, REFUSED)?);
+    assert!(rt; answered(&rt, &rows, REFUSED)?);
     Ok(())
 }
 
 #[test]
 fn a_head_ends_at_an_empty_line(rt: HostRuntime) -> Result<(), Fail> {
-    let task = MockTask::new(&rt)?;
     let unanswered: [&[u8]; 4] = [
         b"\r",
         b"\r\n\r\n\r\n",
@@ -302,7 +319,7 @@ fn a_head_ends_at_an_empty_line(rt: HostRuntime) -> Result<(), Fail> {
         b"GET /a HTTP/1.1\r\n\r\nHost: x\r\n\r\n",
         b"GET /a HTTP/1.1\n\r\nGET /b HTTP/1.1\n\n",
     ];
-    assert!(rt; are_answered(&task, rt.alloc(), &unanswered, b"")?);
-    assert!(rt; are_answered(&task, rt.alloc(), &refused_behind, OK_REFUSED)?);
+    assert!(rt; answered(&rt, &unanswered, b"")?);
+    assert!(rt; answered(&rt, &refused_behind, OK_REFUSED)?);
     Ok(())
 }

@@ -8,7 +8,8 @@ use http_service::{
     H1ServiceHandler, more_is_refused, one_plain_request, refusal_text, served_writes,
 };
 use service_core::{How, Link, Peer, Service};
-use std::alloc::{AllocError, Global};
+use std::alloc::{AllocError, AllocGlobal, Global};
+use std::random::RandomSource;
 use std::test::Fail;
 
 const GET: &[u8] = b"GET /a HTTP/1.1\r\nHost: x\r\n\r\n";
@@ -59,58 +60,61 @@ fn are_answered(
     Ok(true)
 }
 
+// The same, with a task of its own.
+fn answered<R: RandomSource + AllocGlobal>(
+    rt: &R,
+    rows: &[&[u8]],
+    text: &[u8],
+) -> Result<bool, Fail> {
+    let task = MockTask::new(rt)?;
+    Ok(are_answered(&task, rt.alloc(), rows, text)?)
+}
+
 #[test]
 fn a_plain_get_is_answered_by_the_service(rt: HostRuntime) -> Result<(), Fail> {
-    let task = MockTask::new(&rt)?;
-    assert!(rt; is_answered(&task, rt.alloc(), GET, OK)?);
+    assert!(rt; answered(&rt, &[GET], OK)?);
     Ok(())
 }
 
 #[test]
 fn an_error_of_the_service_is_answered(rt: HostRuntime) -> Result<(), Fail> {
-    let task = MockTask::new(&rt)?;
-    let bytes = b"GET /none HTTP/1.1\r\n\r\n";
+    let bytes: &[u8] = b"GET /none HTTP/1.1\r\n\r\n";
     let text = b"HTTP/1.1 404 Not Found\r\ncontent-length: 0\r\n\r\n";
-    assert!(rt; is_answered(&task, rt.alloc(), bytes, text)?);
+    assert!(rt; answered(&rt, &[bytes], text)?);
     Ok(())
 }
 
 #[test]
 fn a_second_request_is_refused_behind_the_answer(rt: HostRuntime) -> Result<(), Fail> {
-    let task = MockTask::new(&rt)?;
-    let bytes = b"GET /a HTTP/1.1\r\n\r\nGET /b HTTP/1.1\r\n\r\n";
-    assert!(rt; is_answered(&task, rt.alloc(), bytes, OK_REFUSED)?);
+    let bytes: &[u8] = b"GET /a HTTP/1.1\r\n\r\nGET /b HTTP/1.1\r\n\r\n";
+    assert!(rt; answered(&rt, &[bytes], OK_REFUSED)?);
     Ok(())
 }
 
 #[test]
 fn a_post_is_refused(rt: HostRuntime) -> Result<(), Fail> {
-    let task = MockTask::new(&rt)?;
     let rows: [&[u8]; 2] = [
         b"POST /a HTTP/1.1\r\nContent-Length: 3\r\n\r\nxyz",
         b"POST /a HTTP/1.1\r\n\r\n",
     ];
-    assert!(rt; are_answered(&task, rt.alloc(), &rows, REFUSED)?);
+    assert!(rt; answered(&rt, &rows, REFUSED)?);
     Ok(())
 }
 
 #[test]
 fn a_head_request_is_refused(rt: HostRuntime) -> Result<(), Fail> {
-    let task = MockTask::new(&rt)?;
-    assert!(rt; is_answered(&task, rt.alloc(), b"HEAD /a HTTP/1.1\r\n\r\n", REFUSED)?);
+    assert!(rt; answered(&rt, &[b"HEAD /a HTTP/1.1\r\n\r\n"], REFUSED)?);
     Ok(())
 }
 
 #[test]
 fn a_get_of_version_1_0_is_refused(rt: HostRuntime) -> Result<(), Fail> {
-    let task = MockTask::new(&rt)?;
-    assert!(rt; is_answered(&task, rt.alloc(), b"GET /a HTTP/1.0\r\n\r\n", REFUSED)?);
+    assert!(rt; answered(&rt, &[b"GET /a HTTP/1.0\r\n\r\n"], REFUSED)?);
     Ok(())
 }
 
 #[test]
 fn a_get_that_asks_something_of_the_connection_is_refused(rt: HostRuntime) -> Result<(), Fail> {
-    let task = MockTask::new(&rt)?;
     let rows: [&[u8]; 5] = [
         b"GET /a HTTP/1.1\r\nConnection: close\r\n\r\n",
         b"GET /a HTTP/1.1\r\nContent-Length: 0\r\n\r\n",
@@ -118,23 +122,21 @@ fn a_get_that_asks_something_of_the_connection_is_refused(rt: HostRuntime) -> Re
         b"GET /a HTTP/1.1\r\nTransfer-Encoding: chunked\r\n\r\n",
         b"GET /a HTTP/1.1\r\nUpgrade: h2c\r\n\r\n",
     ];
-    assert!(rt; are_answered(&task, rt.alloc(), &rows, REFUSED)?);
+    assert!(rt; answered(&rt, &rows, REFUSED)?);
     Ok(())
 }
 
 #[test]
 fn a_head_that_is_too_long_is_refused(rt: HostRuntime) -> Result<(), Fail> {
-    let task = MockTask::new(&rt)?;
-    let bytes =
+    let bytes: &[u8] =
         b"GET /aaaaaaaaaaaaaaaaaaaaaaaaaaaaaaaaaaaaaaaaaaaaaaaaaaaaaaaaaaaaaaaaaaa HTTP/1.1\r\n\r\n";
-    assert!(rt; is_answered(&task, rt.alloc(), bytes, REFUSED)?);
+    assert!(rt; answered(&rt, &[bytes], REFUSED)?);
     Ok(())
 }
 
 #[test]
 fn a_broken_head_is_refused(rt: HostRuntime) -> Result<(), Fail> {
-    let task = MockTask::new(&rt)?;
-    assert!(rt; is_answered(&task, rt.alloc(), b"GET\r\n\r\n", REFUSED)?);
+    assert!(rt; answered(&rt, &[b"GET\r\n\r\n"], REFUSED)?);
     Ok(())
 }
 
@@ -165,8 +167,10 @@ fn reads_fail_at(
 ) -> Result<bool, AllocError> {
     let (piece, pauses, most_read) = row;
     let way = Way {
+        piece,
+        pauses,
         most_read,
-        ..Way::of(piece, pauses)
+        most_written: usize::MAX,
     };
     is_served(task, alloc, (GET, way, MANY), Some(How::ReadFault), text)
 }
@@ -219,8 +223,10 @@ fn a_read_fault_anywhere_ends_it_with_what_was_taken_answered(rt: HostRuntime) -
 // Whether a byte behind the head is refused, where reads would fail behind it.
 fn is_refused_behind(task: &MockTask, alloc: Global, most_read: usize) -> Result<bool, AllocError> {
     let way = Way {
+        piece: 1,
+        pauses: false,
         most_read,
-        ..Way::of(1, false)
+        most_written: usize::MAX,
     };
     is_served(
         task,
@@ -249,8 +255,10 @@ fn writes_fail_at(
 ) -> Result<bool, AllocError> {
     let (piece, pauses, most_written) = row;
     let way = Way {
+        piece,
+        pauses,
+        most_read: usize::MAX,
         most_written,
-        ..Way::of(piece, pauses)
     };
     is_served(task, alloc, (GET_AND_MORE, way, MANY), Some(how), text)
 }
