@@ -12,8 +12,6 @@ mod apply_factory;
 mod apply_service;
 mod apply_service_factory_response;
 mod both;
-#[cfg(test)]
-mod clone_tests;
 mod config_stage;
 #[cfg(test)]
 mod config_tests;
@@ -39,8 +37,6 @@ mod one_stage;
 mod pipeline_functions;
 mod pipeline_service;
 mod pipeline_service_factory;
-#[cfg(test)]
-mod pipeline_tests;
 mod service_ext;
 mod service_factory_ext;
 #[cfg(test)]
