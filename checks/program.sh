@@ -1,6 +1,7 @@
 #!/usr/bin/env bash
-# The program as a newcomer starts it: the examples, the help and the version, words that are no form, and a script
-# that is not understood. Each must print what stands here and end with its status.
+# The program as a newcomer starts it: the examples, the help and the version, words that are no form, a script that is
+# not understood, and one that is too long. Each must print what stands here and end with its status. Then each script of
+# checks/cases: it must print the report beside it, byte for byte, and end with the status beside it, or with 0.
 set -u
 top=$(cd "$(dirname "${BASH_SOURCE[0]}")/.." && pwd)
 passed=0
@@ -32,9 +33,27 @@ check "words that are no form" 2 "usage: replay | listen ADDR N | generate N K" 
 check "no words" 2 "usage: replay | listen ADDR N | generate N K" /dev/null
 check "an empty script" 4 "startup refused: no listener" /dev/null replay
 check "no script" 3 "script line 3 is not understood" "$top/README.md" replay
+work=$(mktemp -d)
+trap 'rm -rf "$work"' EXIT
+head -c 16777217 /dev/zero | tr '\0' '#' > "$work/long.script"
+check "a script that is too long" 3 "script is longer than 16777216 bytes" "$work/long.script" replay
 case $("$top/dongurapi" --help) in
     *"usage: dongurapi replay"*"7 memory ran out") passed=$((passed + 1)) ;;
     *) failed=$((failed + 1)) && echo "failed: the help" ;;
 esac
+
+for script in "$top"/checks/cases/*.script; do
+    case=${script%.script}
+    wanted=0
+    [ ! -e "$case.status" ] || wanted=$(cat "$case.status")
+    ended=0
+    "$top/dongurapi" replay < "$script" > "$work/report" 2> /dev/null || ended=$?
+    if [ "$ended" = "$wanted" ] && cmp -s "$work/report" "$case.report"; then
+        passed=$((passed + 1))
+    else
+        failed=$((failed + 1))
+        printf 'failed: %s: status %s, %s\n' "$(basename "$case")" "$ended" "$(head -c 2000 "$work/report")"
+    fi
+done
 echo "$passed passed, $failed failed"
 [ "$failed" = 0 ]

@@ -2,9 +2,10 @@
 #![tactic(auto)]
 
 ghost use Rattle.std.specs.Prelude.{◌≡◌, None};
-ghost use Rattle.server_program.specs.Words.{IsReplay};
+ghost use Rattle.script.specs.Words.{IsReplay};
 
-use server_program::{Streams, run, words_of, write_all};
+use script::words_of;
+use server_program::{Streams, run, write_all};
 use service_core::Octets;
 use std::process::ExitCode;
 

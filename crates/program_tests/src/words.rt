@@ -1,0 +1,54 @@
+//! The words of the command line, and peers in words.
+use report::peer_text;
+use script::{is_replay, words_of};
+use service_core::{Octets, Peer};
+use std::alloc::{AllocError, Global};
+use std::test::Fail;
+
+// The words of a command line.
+fn said(alloc: Global, words: &[&str]) -> Result<Vec<Octets>, AllocError> {
+    let mut list = Vec::new(alloc);
+    for word in words {
+        list.push(Octets::of(alloc, word.as_bytes())?)?;
+    }
+    Ok(list)
+}
+
+// Whether these words are the form.
+fn are_replay(alloc: Global, words: &[&str]) -> Result<bool, AllocError> {
+    Ok(is_replay(&said(alloc, words)?))
+}
+
+#[test]
+fn only_the_one_word_replay_is_replay(rt: HostRuntime) -> Result<(), Fail> {
+    let alloc = rt.alloc();
+    assert!(rt; !are_replay(alloc, &[])?);
+    assert!(rt; are_replay(alloc, &["replay"])?);
+    assert!(rt; !are_replay(alloc, &["replay", ""])?);
+    assert!(rt; !are_replay(alloc, &[""])?);
+    assert!(rt; !is_replay(&words_of(&rt, alloc)?));
+    Ok(())
+}
+
+// Whether a peer in words is this text.
+fn is_told(alloc: Global, peer: Peer, text: &[u8]) -> Result<bool, AllocError> {
+    Ok(peer_text(alloc, peer)?.as_bytes() == text)
+}
+
+#[test]
+fn a_peer_is_told_in_words(rt: HostRuntime) -> Result<(), Fail> {
+    let alloc = rt.alloc();
+    let v4 = Peer::V4 {
+        host: 0x0a00_00ff,
+        port: 5000,
+    };
+    let v6 = Peer::V6 {
+        host: 0x2001_0db8_0000_0000_0000_0000_00af_fffe,
+        port: 80,
+    };
+    assert!(rt; is_told(alloc, v4, b"10.0.0.255:5000")?);
+    assert!(rt; is_told(alloc, v6, b"[2001:0db8:0000:0000:0000:0000:00af:fffe]:80")?);
+    assert!(rt; is_told(alloc, Peer::Local, b"local")?);
+    assert!(rt; is_told(alloc, Peer::Unknown, b"unknown")?);
+    Ok(())
+}

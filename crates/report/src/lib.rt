@@ -1,0 +1,9 @@
+//! The text of a report, and of the peers in it.
+#![tactic(auto)]
+
+mod hex;
+mod peer_words;
+mod report;
+
+pub use peer_words::peer_text;
+pub use report::report_text;

@@ -1,0 +1,154 @@
+-- The grammar of a script, and the plan that its lines make.
+use Rattle.std.specs.Prelude.{ℕ, ◌+◌, ◌*◌, ◌-◌, ◌^◌, ◌==◌, ◌&&◌, ◌||◌, nat_le, nat_lt, nat_eq, not, Bool, true, false, if◌then◌else◌, List, [], ◌∷◌, ◌++◌, length, drop, Option, Some, None, is_none, Result, Ok, Err, codes}
+use Rattle.std.specs.List.{slice_split, starts_with, list_all, position_or_len, before_first, after_first}
+use Rattle.std.specs.Str.{bytes_eq}
+use Rattle.std.specs.Option.{option_map, option_and_then, option_map_or, option_or}
+use Rattle.service_core.specs.declared.peer.Peer.{Peer}
+use Rattle.service_core.specs.declared.peer.Peer.TheVariants.{V4, Local}
+use Rattle.script.specs.Plain.{is_plain}
+use Rattle.script.specs.declared.line.Line.{Line}
+use Rattle.cors_rules.specs.Policy.{Builder, fresh}
+use Rattle.script.specs.declared.handler.Handler.{Handler}
+use Rattle.script.specs.declared.handler.Handler.TheVariants as handlers
+use Rattle.script.specs.Numbers.{number_to}
+use Rattle.script.specs.PolicyText.{and_line, is_permissive, policy_line, some_text}
+use Rattle.script.specs.declared.policy.policy_line.PolicyLine.{PolicyLine}
+use Rattle.script.specs.declared.policy.script_rule.ScriptRule.{ScriptRule}
+use Rattle.script.specs.declared.line.Line.TheVariants.{Skip, Listener, Conn, Give, Handle, Policy}
+
+-- ---- the text of a `give` line
+
+-- the byte that a letter stands for behind a backslash
+abbrev pub escaped : ℕ → Option ℕ
+escaped c = if c == 114 then Some 13 else if c == 110 then Some 10 else if c == 116 then Some 9 else if c == 34 then Some 34 else if c == 92 then Some 92 else None
+
+-- the number of a hexadecimal digit
+abbrev pub hex_digit : ℕ → Option ℕ
+hex_digit c =
+    if nat_le 48 c && nat_le c 57 then Some (c - 48)
+    else if nat_le 97 c && nat_le c 102 then Some (c - 87)
+    else if nat_le 65 c && nat_le c 70 then Some (c - 55)
+    else None
+
+abbrev pub hex_byte : ℕ → ℕ → Option ℕ
+hex_byte high low = option_and_then (λ h. option_map (λ l. h * 16 + l) (hex_digit low)) (hex_digit high)
+
+-- a byte before these
+abbrev pub before : Option ℕ → Option (List ℕ) → Option (List ℕ)
+before first rest = option_and_then (λ b. option_map (λ bs. b ∷ bs) rest) first
+
+-- what a text with escapes stands for, or none where a backslash stands before anything else
+abbrev pub text_bytes : List ℕ → Option (List ℕ)
+text_bytes [] = Some []
+text_bytes (b ∷ []) = if b == 92 then None else Some (b ∷ [])
+text_bytes (b ∷ c ∷ []) = if b == 92 then before (escaped c) (Some []) else before (Some b) (text_bytes (c ∷ []))
+text_bytes (b ∷ c ∷ d ∷ []) = if b == 92 then before (escaped c) (text_bytes (d ∷ [])) else before (Some b) (text_bytes (c ∷ d ∷ []))
+text_bytes (b ∷ c ∷ d ∷ e ∷ rest) =
+    if b == 92
+    then if c == 120 then before (hex_byte d e) (text_bytes rest) else before (escaped c) (text_bytes (d ∷ e ∷ rest))
+    else before (Some b) (text_bytes (c ∷ d ∷ e ∷ rest))
+
+-- ---- the peer of a `conn` line
+
+-- what stands before the first b of a text and what stands behind it, where there is one
+abbrev pub cut_at : ℕ → List ℕ → Option (List ℕ × List ℕ)
+cut_at b text =
+    if nat_lt (position_or_len (λ c. c == b) text) (length text) then Some (before_first (λ c. c == b) text, after_first (λ c. c == b) text) else None
+
+-- a number up to 255 before the first point of a text, and what stands behind the point
+abbrev pub octet_first : List ℕ → Option (ℕ × List ℕ)
+octet_first text = option_and_then (λ (first, more). option_map (λ n. (n, more)) (number_to 255 first)) (cut_at 46 text)
+
+-- the address of four numbers with points between them
+abbrev pub host_of : List ℕ → Option ℕ
+host_of text =
+    option_and_then (λ (a, bcd).
+    option_and_then (λ (b, cd).
+    option_and_then (λ (c, last).
+    option_map (λ d. a * 2 ^ 24 + b * 2 ^ 16 + c * 2 ^ 8 + d)
+    (number_to 255 last)) (octet_first cd)) (octet_first bcd)) (octet_first text)
+
+-- an address and a port with a colon between them
+abbrev pub v4_of : List ℕ → Option Peer
+v4_of text =
+    option_and_then (λ (host, port).
+    option_and_then (λ h.
+    option_map (λ p. V4 h p)
+    (number_to 65535 port)) (host_of host)) (cut_at 58 text)
+
+abbrev pub peer_of : List ℕ → Option Peer
+peer_of text = if bytes_eq text (codes "local") then Some Local else v4_of text
+
+-- ---- lines
+
+-- the handler that a line sets
+abbrev pub handler_line : List ℕ → Option Handler
+handler_line line =
+    if bytes_eq line (codes "handler hello") then Some handlers.Hello
+    else if bytes_eq line (codes "handler peer") then Some handlers.Peer
+    else if bytes_eq line (codes "handler fail") then Some handlers.Fail
+    else None
+
+-- what a line says, or none where it isn't of the grammar
+abbrev pub line_of : List ℕ → Option Line
+line_of line =
+    if not (list_all is_plain line) then None
+    else if (length line == 0) || starts_with nat_eq line (codes "#") then Some Skip
+    else if bytes_eq line (codes "listener") then Some Listener
+    else if starts_with nat_eq line (codes "conn ") then option_map Conn (peer_of (drop 5 line))
+    else if starts_with nat_eq line (codes "give ") then option_map Give (option_and_then text_bytes (some_text (drop 5 line)))
+    else option_or (option_map Handle (handler_line line)) (option_map Policy (policy_line line))
+
+-- ---- the plan
+
+-- the builder of the policy and whether a line spoke of it, the handler, whether there is a listener, and its
+-- connection: a peer and the bytes that it gives
+pub record Plan : Type 0 where
+  pub cors : Builder ScriptRule
+  pub has_policy : Bool
+  pub handler : Handler
+  pub listening : Bool
+  pub connection : Option (Peer × List ℕ)
+
+abbrev pub nothing_yet : Plan
+nothing_yet = record { cors = fresh; has_policy = false; handler = handlers.Hello; listening = false; connection = None }
+
+abbrev pub with_listener : Plan → Option Plan
+with_listener plan = if plan.listening then None else Some (record plan { listening = true })
+
+-- one more policy line, which stands before the listener; one that allows everything stands before every other
+abbrev pub with_policy : Plan → PolicyLine → Option Plan
+with_policy plan line =
+    if plan.listening || (is_permissive line && plan.has_policy) then None
+    else Some (record plan { cors = and_line plan.cors line; has_policy = true })
+
+-- the handler, which is set before the listener; a later line takes the place of an earlier one
+abbrev pub with_handler : Plan → Handler → Option Plan
+with_handler plan handler = if plan.listening then None else Some (record plan { handler = handler })
+
+abbrev pub with_connection : Plan → Peer → Option Plan
+with_connection plan peer = if plan.listening && is_none plan.connection then Some (record plan { connection = Some (peer, []) }) else None
+
+abbrev pub with_bytes : Plan → List ℕ → Option Plan
+with_bytes plan bytes = option_map (λ (peer, held). record plan { connection = Some (peer, held ++ bytes) }) plan.connection
+
+-- what a plan becomes by a line, or none where the line can't stand there
+abbrev pub with_line : Plan → Line → Option Plan
+with_line plan Skip = Some plan
+with_line plan Listener = with_listener plan
+with_line plan (Conn peer) = with_connection plan peer
+with_line plan (Give bytes) = with_bytes plan bytes
+with_line plan (Handle handler) = with_handler plan handler
+with_line plan (Policy line) = with_policy plan line
+
+abbrev pub after_line : Plan → List ℕ → Option Plan
+after_line plan line = option_and_then (λ said. with_line plan said) (line_of line)
+
+-- the plan of these lines, or the number of the first bad one, where the first has this number
+abbrev pub plan_from : Plan → ℕ → List (List ℕ) → Result Plan ℕ
+plan_from plan number [] = Ok plan
+plan_from plan number (line ∷ lines) = option_map_or (λ next. plan_from next (number + 1) lines) (after_line plan line) (Err number)
+
+-- the plan of a script, or the number of its first bad line
+abbrev pub plan_of : List ℕ → Result Plan ℕ
+plan_of bytes = plan_from nothing_yet 1 (slice_split (λ b. b == 10) bytes)

@@ -1,0 +1,20 @@
+//! What a script says: its lines, and what they ask for together.
+#![tactic(auto)]
+
+mod connection;
+mod handler;
+mod line;
+mod policy;
+mod reading;
+mod script;
+mod text;
+mod words;
+
+pub use connection::Connection;
+pub use handler::Handler;
+pub use line::{Line, read_line};
+pub use policy::{PolicyLine, ScriptRule, read_policy_line};
+pub use reading::{MAX_SCRIPT, Reading, read_script};
+pub use script::Script;
+pub use text::PlainText;
+pub use words::{is_replay, words_of};

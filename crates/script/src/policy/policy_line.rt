@@ -1,0 +1,96 @@
+//! What a line of a script says of its policy.
+ghost use Rattle.std.specs.Prelude.{◌≡◌, IfOk, map};
+ghost use Rattle.script.specs.PolicyText.{and_line, is_permissive, words};
+
+use crate::policy::ScriptRule;
+use crate::text::PlainText;
+use cors_answer::Cors;
+use std::alloc::{AllocError, Global};
+
+/// A call of a policy's builder, as a line of a script asks for it.
+#[derive(Drop)]
+pub enum PolicyLine {
+    /// The policy starts from one that allows everything.
+    Permissive,
+    /// All origins are allowed.
+    AnyOrigin,
+    /// One more origin.
+    Origin(PlainText),
+    /// One more rule.
+    Rule(ScriptRule),
+    /// All methods are allowed.
+    AnyMethod,
+    /// More methods, with one space between two.
+    Methods(PlainText),
+    /// All request headers are allowed.
+    AnyHeader,
+    /// One more request header.
+    Header(PlainText),
+    /// More request headers, with one space between two.
+    Headers(PlainText),
+    /// Pages may read all response headers.
+    ExposeAny,
+    /// Pages may read more response headers, with one space between two.
+    Expose(PlainText),
+    /// How many seconds a preflight's answer may be kept, if that is told.
+    MaxAge(Option<u64>),
+    /// A grant to all is written as `*`.
+    Wildcard,
+    /// Pages may send credentials.
+    Credentials,
+    /// Answers do not name what they depend on.
+    NoVary,
+    /// Preflights go to the handler.
+    NoPreflight,
+    /// A request is refused where its origin is not granted.
+    Block,
+}
+
+// The words of a text, with one space between two.
+fn words_of<'a>(alloc: Global, text: &'a PlainText) -> Result<Vec<&'a str>, AllocError>
+    ensures { IfOk result (λ list. map (λ word. word.now) list.items ≡ words text.entry.now) }
+{
+    text.as_str().split(' ').collect(alloc)
+}
+
+impl PolicyLine {
+    /// Whether it starts from everything, so that no other line may stand before it.
+    pub fn is_permissive(&self) -> bool
+        ensures { result ≡ is_permissive self.now }
+    {
+        matches!(self, PolicyLine::Permissive)
+    }
+
+    /// The builder after this call.
+    #[tactic(auto, unfolding(crate::specs::PolicyText::and_line))]
+    pub fn added_to(
+        self,
+        alloc: Global,
+        cors: Cors<ScriptRule>,
+    ) -> Result<Cors<ScriptRule>, AllocError>
+        ensures { IfOk result (λ new. new ≡ and_line cors self) }
+    {
+        match self {
+            PolicyLine::Permissive => {
+                drop(cors);
+                Cors::permissive(alloc)
+            }
+            PolicyLine::AnyOrigin => Ok(cors.allow_any_origin()),
+            PolicyLine::Origin(origin) => cors.allowed_origin(origin.as_str()),
+            PolicyLine::Rule(rule) => cors.allowed_origin_fn(rule),
+            PolicyLine::AnyMethod => cors.allow_any_method(),
+            PolicyLine::Methods(text) => cors.allowed_methods(&words_of(alloc, &text)?),
+            PolicyLine::AnyHeader => Ok(cors.allow_any_header()),
+            PolicyLine::Header(name) => cors.allowed_header(name.as_str()),
+            PolicyLine::Headers(text) => cors.allowed_headers(&words_of(alloc, &text)?),
+            PolicyLine::ExposeAny => Ok(cors.expose_any_header()),
+            PolicyLine::Expose(text) => cors.expose_headers(&words_of(alloc, &text)?),
+            PolicyLine::MaxAge(seconds) => Ok(cors.max_age(seconds)),
+            PolicyLine::Wildcard => Ok(cors.send_wildcard()),
+            PolicyLine::Credentials => Ok(cors.supports_credentials()),
+            PolicyLine::NoVary => Ok(cors.disable_vary_header()),
+            PolicyLine::NoPreflight => Ok(cors.disable_preflight()),
+            PolicyLine::Block => Ok(cors.block_on_origin_mismatch(true)),
+        }
+    }
+}

@@ -1,0 +1,46 @@
+-- The report of a script.
+use Rattle.std.specs.Prelude.{◌≡◌, ◌⊎◌, ℕ, List, [], ◌++◌, Option, Some, None}
+use Rattle.service_core.specs.declared.peer.Peer.{Peer}
+use Rattle.server_run.specs.declared.outcome.Outcome.TheVariants.{Served, Memory}
+use Rattle.server_run.specs.declared.report.End.{End}
+use Rattle.server_run.specs.declared.report.End.TheVariants.{Drained, Memory as NoRoom}
+use Rattle.server_run.specs.declared.report.ListenerState.{ListenerState}
+use Rattle.server_run.specs.declared.report.ListenerState.TheVariants.{Ended, Open}
+use Rattle.report.specs.Report.{end_line, line_of, state_line}
+use Rattle.script.specs.Script.{Plan}
+use Rattle.server_program.specs.Handlers.{Site, site_of}
+use Rattle.server_program.specs.Serving.{answers_of}
+
+-- the line of the script's connection: it was served, and was written the answers to the bytes that it gave
+abbrev pub connection_lines : Site → Option (Peer × List ℕ) → List ℕ
+connection_lines site None = []
+connection_lines site (Some (peer, held)) = line_of 0 0 Served (answers_of site peer held).0
+
+-- the report of a script
+abbrev pub report_text : Plan → List ℕ
+report_text plan = connection_lines (site_of plan) plan.connection ++ (state_line 0 Ended ++ end_line Drained)
+
+-- memory ran out while the connection was served: a front of its answers was written
+pub record IsCutShort (site : Site) (connection : Option (Peer × List ℕ)) (lines : List ℕ) : Type 0 where
+  pub peer : Peer
+  pub held : List ℕ
+  pub is : connection ≡ Some (peer, held)
+  pub front : List ℕ
+  pub back : List ℕ
+  pub answers : (answers_of site peer held).0 ≡ front ++ back
+  pub line : lines ≡ line_of 0 0 Memory front
+
+-- The report of a run in which memory ran out: it has a `memory` line or the end `end memory`.
+pub record ShowsMemory (plan : Plan) (text : List ℕ) : Type 0 where
+  pub lines : List ℕ
+  pub state : ListenerState
+  pub end : End
+  pub is : text ≡ lines ++ (state_line 0 state ++ end_line end)
+  pub connection : (lines ≡ []) ⊎ ((lines ≡ connection_lines (site_of plan) plan.connection) ⊎ IsCutShort (site_of plan) plan.connection lines)
+  pub why : (end ≡ NoRoom) ⊎ IsCutShort (site_of plan) plan.connection lines
+  -- a listener is open only beside `end memory`
+  pub open_by : state ≡ Open → end ≡ NoRoom
+
+-- the report of the script, or the report of a run in which memory ran out
+abbrev pub IsReportOf : Plan → List ℕ → Type 0
+IsReportOf plan text = (text ≡ report_text plan) ⊎ ShowsMemory plan text

@@ -1,0 +1,49 @@
+ghost use Rattle.std.specs.Prelude.{◌≡◌, Ok};
+ghost use Rattle.futures.specs.declared.task.Poll.TheVariants.{Ready as PollReady};
+ghost use Rattle.http1_plain.specs.Views.{request_of};
+ghost use Rattle.service_core.specs.Meaning.{GivesOnly};
+ghost use Rattle.server_program.specs.Handlers.{HandlerGives};
+
+use crate::serving::{HandlerFault, answer};
+use futures::Future;
+use futures::task::{Context, Poll};
+use http1_plain::{Request, Response};
+use script::Handler;
+use service_core::{Ready, Service, err, ok};
+use std::alloc::Global;
+
+/// The service of a handler, which is always ready.
+#[derive(Drop)]
+pub struct HandlerService {
+    /// Where its responses take their memory.
+    pub alloc: Global,
+    /// What answers each request.
+    pub handler: Handler,
+}
+
+impl Service<Request> for HandlerService {
+    type Response = Response;
+
+    type Error = HandlerFault;
+
+    type Future = Ready<Result<Response, HandlerFault>>;
+
+    ghost may = { λ s q r. HandlerGives s.handler (request_of q) r };
+
+    ghost may_ready = { λ _ answer. answer ≡ PollReady (Ok tt) };
+
+    ghost may_begin = { λ s q f. GivesOnly ⟦<Ready<Result<Response, HandlerFault>> as Future>⟧ f (HandlerGives s.handler (request_of q)) };
+
+    ghost begun_gives = { λ s q f h. h };
+
+    fn poll_ready(&self, _cx: &mut Context<'_>) -> Poll<Result<(), HandlerFault>> {
+        Poll::Ready(Ok(()))
+    }
+
+    fn call(&self, req: Request) -> Ready<Result<Response, HandlerFault>> {
+        match answer(self.handler, self.alloc, &req) {
+            Ok(response) => ok(response),
+            Err(fault) => err(fault),
+        }
+    }
+}

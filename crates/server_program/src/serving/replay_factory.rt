@@ -1,0 +1,66 @@
+//! The factory of a replayed script's services, by token.
+ghost use Rattle.std.specs.Prelude.{◌≡◌, None, Ok, IfOk};
+ghost use Rattle.std.specs.Arc.{arc_value};
+ghost use Rattle.futures.specs.declared.task.Poll.TheVariants.{Ready as PollReady};
+ghost use Rattle.cors_rules.specs.Refusing.{config_error};
+ghost use Rattle.cors_answer.specs.Transforms.{Refuses};
+ghost use Rattle.server_program.specs.Handlers.{site};
+ghost use Rattle.server_program.specs.Serving.{LeavesScript, ServesScript};
+
+use crate::serving::ConnectionFactory;
+use cors_answer::Cors;
+use script::{Handler, ScriptRule};
+use server_run::ServerServiceFactory;
+use service_core::Link;
+use std::alloc::{AllocError, Global};
+use std::sync::Arc;
+
+/// Makes, for every listener, connections that are served by one handler under one policy, if that is not refused.
+#[derive(Drop)]
+pub struct ReplayFactory {
+    pub(crate) cors: Arc<Cors<ScriptRule>>,
+    pub(crate) handler: Handler,
+}
+
+impl ReplayFactory {
+    /// A factory of the handler under the policy that the builder has made.
+    pub fn new(
+        alloc: Global,
+        cors: Cors<ScriptRule>,
+        handler: Handler,
+    ) -> Result<ReplayFactory, AllocError>
+        ensures cors { IfOk result (λ factory. arc_value factory.cors ≡ cors) }
+        ensures handler { IfOk result (λ factory. factory.handler ≡ handler) }
+    {
+        Ok(ReplayFactory {
+            cors: Arc::new(alloc, cors)?,
+            handler,
+        })
+    }
+}
+
+impl<L: Link> ServerServiceFactory<L> for ReplayFactory {
+    type Factory = ConnectionFactory;
+
+    ghost may_serve = { λ f _ link ended. ServesScript (site (arc_value f.cors).policy f.handler) L.Link link ended };
+
+    ghost may_leave = { λ f _ link back. LeavesScript (site (arc_value f.cors).policy f.handler) L.Link link back };
+
+    ghost may_ready = { λ _ _ answer. answer ≡ PollReady (Ok tt) };
+
+    ghost may_init = { λ f _ error. Refuses (arc_value f.cors) error };
+
+    ghost may_make = { λ f _. config_error (arc_value f.cors) ≡ None };
+
+    fn create(&self, alloc: Global, _token: usize) -> Result<ConnectionFactory, AllocError> {
+        Ok(ConnectionFactory {
+            alloc,
+            cors: self.cors.clone()?,
+            handler: self.handler,
+        })
+    }
+
+    ghost same_served = { λ _ _ link ended serves. serves.same };
+
+    ghost same_left = { λ _ _ link back leaves. leaves.same };
+}
