@@ -13,10 +13,6 @@ mod apply_service;
 mod apply_service_factory_response;
 mod both;
 mod config_stage;
-#[cfg(test)]
-mod config_tests;
-#[cfg(test)]
-mod factory_tests;
 mod fn_service_config;
 mod fn_service_no_config;
 mod half;
@@ -39,10 +35,6 @@ mod pipeline_service;
 mod pipeline_service_factory;
 mod service_ext;
 mod service_factory_ext;
-#[cfg(test)]
-mod test_factories;
-#[cfg(test)]
-mod test_services;
 mod then;
 mod then_factory;
 mod then_factory_response;
