@@ -1,7 +1,8 @@
 #!/usr/bin/env bash
 # The program as a newcomer starts it: the examples, the help and the version, words that are no form, a script that is
 # not understood, and one that is too long. Each must print what stands here and end with its status. Then each script of
-# checks/cases: it must print the report beside it, byte for byte, and end with the status beside it, or with 0.
+# checks/cases: it must print the report beside it, byte for byte, and end with the status beside it, or with 0. Last the
+# launcher itself: it runs the program that stands here as it is, and asks for a build where there is none.
 set -u
 top=$(cd "$(dirname "${BASH_SOURCE[0]}")/.." && pwd)
 passed=0
@@ -55,5 +56,16 @@ for script in "$top"/checks/cases/*.script; do
         printf 'failed: %s: status %s, %s\n' "$(basename "$case")" "$ended" "$(head -c 2000 "$work/report")"
     fi
 done
+# What it says on standard error where the program is built, and where nothing is.
+mkdir -p "$work/bare/crates/dongurapi/src"
+cp "$top/dongurapi" "$top/crates.txt" "$work/bare"
+built=$("$top/dongurapi" --version 2>&1 > /dev/null)
+bare=$("$work/bare/dongurapi" listen 127.0.0.1:0 1 2>&1)
+if [ -z "$built" ] && [ "$bare" = "dongurapi: listening wants the built program, which is not here or older than its sources: ./dongurapi build" ]; then
+    passed=$((passed + 1))
+else
+    failed=$((failed + 1))
+    printf 'failed: the launcher: %s; %s\n' "$built" "$bare"
+fi
 echo "$passed passed, $failed failed"
 [ "$failed" = 0 ]

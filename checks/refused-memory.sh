@@ -68,12 +68,6 @@ def test_is_allowed(status, text):
     left = COMPARED.search(text)
     return bool(left) and (left[1][0] != "[" or says_memory(bytes(map(int, left[1][1:-1].split(","))).decode(errors="replace")))
 
-# They do not show what they got.
-SILENT = (
-    "server_program_tests tests::a_source_is_read_whole_or_not_at_all",
-    "service_combine_tests factory_tests::each_factory_makes_the_same_each_way",
-)
-
 runs = []
 program = f"{top}/crates/dongurapi/out/dongurapi"
 scripts = sorted(glob.glob(f"{top}/examples/*.script") + glob.glob(f"{top}/checks/cases/*.script"))
@@ -86,8 +80,7 @@ for tests in sorted(glob.glob(f"{top}/crates/*/out/*_tests")):
     listed = subprocess.run([tests, "--list"], capture_output=True, text=True).stdout
     for name in re.findall(r"(?m)^(\S+): test$", listed):
         shown = f"{os.path.basename(tests)} {name}"
-        if shown not in SILENT:
-            runs.append((shown, [tests, name], "/dev/null", test_is_allowed))
+        runs.append((shown, [tests, name], "/dev/null", test_is_allowed))
 
 with ThreadPoolExecutor(os.cpu_count()) as pool:
     ends = list(pool.map(lambda it: tried(it[0], *it[1][1:]), enumerate(runs)))
