@@ -1,6 +1,6 @@
 //! Factories that change what their parts make, whatever the parts.
 
-use crate::asking::{Bench, Order, both_show};
+use crate::asking::{Bench, Order, both_show, shows};
 use crate::making::Asked;
 use crate::words::Again;
 use service_combine::{PipelineFactory, ServiceFactoryExt, pipeline_factory};
@@ -103,7 +103,7 @@ where
 pub(crate) fn mapped_pipeline<A, F, Req, Mid, Res>(
     bench: &Bench,
     parts: (A, F),
-    order: &Order<A::Config>,
+    cfg: A::Config,
     asked: Asked<Req, Res, A::Error, A::InitError>,
 ) -> Result<bool, AllocError>
 where
@@ -111,30 +111,28 @@ where
     Res: PartialEq + Drop,
     A: ServiceFactory<
         Req,
-        Config: Again,
+        Config: Drop,
         Response = Mid,
         Error: NoMemory + PartialEq,
         Service: Drop,
         InitError: NoMemory + PartialEq,
     >
-        + Clone
         + Drop,
     F: Fn(Mid) -> Res + Drop,
-    requires factory { (made : _) → A.can_make made }
+    requires factory { A.can_make parts.0 }
     requires f { F.IsAlwaysCallable parts.1 }
 {
     let (factory, f) = parts;
     let chain: PipelineFactory<A, Req> = pipeline_factory(factory);
     let mapped = chain.map(bench.alloc, f)?;
-    let copy = mapped.clone()?;
-    both_show(bench, mapped, copy, order, &asked)
+    shows(&bench.task, &mapped, cfg, &asked)
 }
 
 /// Whether a pipeline whose services' errors are changed shows what it has to.
 pub(crate) fn renamed_pipeline<A, F, Req, Mid, E>(
     bench: &Bench,
     parts: (A, F),
-    order: &Order<A::Config>,
+    cfg: A::Config,
     asked: Asked<Req, A::Response, E, A::InitError>,
 ) -> Result<bool, AllocError>
 where
@@ -143,30 +141,28 @@ where
     E: NoMemory + PartialEq,
     A: ServiceFactory<
         Req,
-        Config: Again,
+        Config: Drop,
         Response: PartialEq + Drop,
         Error = Mid,
         Service: Drop,
         InitError: NoMemory + PartialEq,
     >
-        + Clone
         + Drop,
     F: Fn(Mid) -> E + Drop,
-    requires factory { (made : _) → A.can_make made }
+    requires factory { A.can_make parts.0 }
     requires f { F.IsAlwaysCallable parts.1 }
 {
     let (factory, f) = parts;
     let chain: PipelineFactory<A, Req> = pipeline_factory(factory);
     let renamed = chain.map_err(bench.alloc, f)?;
-    let copy = renamed.clone()?;
-    both_show(bench, renamed, copy, order, &asked)
+    shows(&bench.task, &renamed, cfg, &asked)
 }
 
 /// Whether a pipeline whose own errors are changed shows what it has to.
 pub(crate) fn excused_pipeline<A, F, Req, Mid, E>(
     bench: &Bench,
     parts: (A, F),
-    order: &Order<A::Config>,
+    cfg: A::Config,
     asked: Asked<Req, A::Response, A::Error, E>,
 ) -> Result<bool, AllocError>
 where
@@ -175,21 +171,19 @@ where
     E: NoMemory + PartialEq,
     A: ServiceFactory<
         Req,
-        Config: Again,
+        Config: Drop,
         Response: PartialEq + Drop,
         Error: NoMemory + PartialEq,
         Service: Drop,
         InitError = Mid,
     >
-        + Clone
         + Drop,
     F: Fn(Mid) -> E + Drop,
-    requires factory { (made : _) → A.can_make made }
+    requires factory { A.can_make parts.0 }
     requires f { F.IsAlwaysCallable parts.1 }
 {
     let (factory, f) = parts;
     let chain: PipelineFactory<A, Req> = pipeline_factory(factory);
     let excused = chain.map_init_err(bench.alloc, f)?;
-    let copy = excused.clone()?;
-    both_show(bench, excused, copy, order, &asked)
+    shows(&bench.task, &excused, cfg, &asked)
 }

@@ -2,55 +2,75 @@
 
 use crate::asking::{Bench, each_way, once};
 use crate::changing::{excused, mapped, renamed};
+use crate::copy_tests::changed_make_the_same;
 use crate::makers::{Passing, Tags, copies, copies_late, denies, denies_late, scored};
 use crate::making::Asked;
-use crate::naming::{excuse, failure, half, ok_of, same};
-use crate::pairing::{handed, paired};
-use crate::services::{Echo, Faulty, Obeying, Tagging};
+use crate::naming::{excuse, failure, half, ok_of};
+use crate::pairing::paired;
+use crate::services::{Echo, Faulty, Tagging};
 use crate::transforms::excused_transform;
 use crate::words::{Denial, Failure, Fault, Mark, Single, Word};
+use std::alloc::AllocError;
 use std::cell::Cell;
 use std::test::Fail;
+
+/// Whether a factory of services that answer, which is mapped, shows what it has to.
+fn maps(bench: &Bench, asked: Asked<(), &'static str, Fault, Denial>) -> Result<bool, AllocError> {
+    mapped(bench, (copies(Echo), ok_of), &once(1u32), asked)
+}
 
 #[test]
 fn map_changes_the_responses_of_made_services(rt: HostRuntime) -> Result<(), Fail> {
     let bench = Bench::new(&rt)?;
-    let answer = Asked::Served((), Ok("ok"));
-    assert!(rt; mapped(&bench, (copies(Echo), ok_of), &once(1u32), answer)?);
-    let readiness: Asked<(), _, _, _> = Asked::Readied(Ok(()));
-    assert!(rt; mapped(&bench, (copies(Echo), ok_of), &once(1u32), readiness)?);
+    assert!(rt; maps(&bench, Asked::Served((), Ok("ok")))?);
+    assert!(rt; maps(&bench, Asked::Readied(Ok(())))?);
     Ok(())
+}
+
+/// Whether a factory of services that err, which is mapped, shows what it has to.
+fn maps_faulty(
+    bench: &Bench,
+    asked: Asked<(), &'static str, Fault, Denial>,
+) -> Result<bool, AllocError> {
+    let faulty = Faulty { fault: Fault::Bad };
+    mapped(bench, (copies(faulty), ok_of), &once(1u32), asked)
 }
 
 #[test]
 fn map_leaves_the_errors_of_made_services(rt: HostRuntime) -> Result<(), Fail> {
     let bench = Bench::new(&rt)?;
-    let faulty = Faulty { fault: Fault::Bad };
-    let answer = Asked::Served((), Err(Fault::Bad));
-    assert!(rt; mapped(&bench, (copies(faulty), ok_of), &once(1u32), answer)?);
-    let readiness: Asked<(), _, _, _> = Asked::Readied(Err(Fault::Bad));
-    assert!(rt; mapped(&bench, (copies(faulty), ok_of), &once(1u32), readiness)?);
+    assert!(rt; maps_faulty(&bench, Asked::Served((), Err(Fault::Bad)))?);
+    assert!(rt; maps_faulty(&bench, Asked::Readied(Err(Fault::Bad)))?);
     Ok(())
+}
+
+/// Whether a factory of services that err, whose errors are changed, shows what it has to.
+fn renames_faulty(
+    bench: &Bench,
+    asked: Asked<(), (), Failure, Denial>,
+) -> Result<bool, AllocError> {
+    let faulty = Faulty { fault: Fault::Bad };
+    renamed(bench, (copies(faulty), failure), &once(1u32), asked)
 }
 
 #[test]
 fn map_err_changes_the_errors_of_made_services(rt: HostRuntime) -> Result<(), Fail> {
     let bench = Bench::new(&rt)?;
-    let faulty = Faulty { fault: Fault::Bad };
-    let answer = Asked::Served((), Err(Failure::Mapped));
-    assert!(rt; renamed(&bench, (copies(faulty), failure), &once(1u32), answer)?);
-    let readiness: Asked<(), _, _, _> = Asked::Readied(Err(Failure::Mapped));
-    assert!(rt; renamed(&bench, (copies(faulty), failure), &once(1u32), readiness)?);
+    assert!(rt; renames_faulty(&bench, Asked::Served((), Err(Failure::Mapped)))?);
+    assert!(rt; renames_faulty(&bench, Asked::Readied(Err(Failure::Mapped)))?);
     Ok(())
+}
+
+/// Whether a factory of services that answer, whose errors are changed, shows what it has to.
+fn renames(bench: &Bench, asked: Asked<u32, u32, Failure, Denial>) -> Result<bool, AllocError> {
+    renamed(bench, (copies(Echo), failure), &once(1u32), asked)
 }
 
 #[test]
 fn map_err_leaves_the_responses_of_made_services(rt: HostRuntime) -> Result<(), Fail> {
     let bench = Bench::new(&rt)?;
-    let answer = Asked::Served(7u32, Ok(7));
-    assert!(rt; renamed(&bench, (copies(Echo), failure), &once(1u32), answer)?);
-    let readiness: Asked<u32, _, _, _> = Asked::Readied(Ok(()));
-    assert!(rt; renamed(&bench, (copies(Echo), failure), &once(1u32), readiness)?);
+    assert!(rt; renames(&bench, Asked::Served(7, Ok(7)))?);
+    assert!(rt; renames(&bench, Asked::Readied(Ok(())))?);
     Ok(())
 }
 
@@ -128,22 +148,6 @@ fn map_init_err_changes_what_comes_in_place_of_a_service(rt: HostRuntime) -> Res
 }
 
 #[test]
-fn parts_that_cannot_be_shared_are_want_of_memory(rt: HostRuntime) -> Result<(), Fail> {
-    let bench = Bench::new(&rt)?;
-    let memory: Asked<u32, _, _, _> = Asked::Denied(Denial::Memory);
-    assert!(rt; paired(&bench, (copies(Echo), copies(Echo)), &once(Single), &memory)?);
-    assert!(rt;
-        handed(
-            &bench,
-            (copies(Echo), copies(Obeying)),
-            &once(Single),
-            &memory
-        )?
-    );
-    Ok(())
-}
-
-#[test]
 fn a_making_that_waits_can_be_dropped(rt: HostRuntime) -> Result<(), Fail> {
     let bench = Bench::new(&rt)?;
     let waits: Asked<u32, _, _, _> = Asked::Waits;
@@ -173,12 +177,7 @@ fn wrapping_waits(bench: &Bench) -> Result<bool, Fail> {
 #[test]
 fn each_factory_makes_the_same_each_way(rt: HostRuntime) -> Result<(), Fail> {
     let bench = Bench::new(&rt)?;
-    let four = Asked::Served(8u32, Ok(4));
-    assert!(rt; mapped(&bench, (copies(Echo), half), &each_way(1u32), four)?);
-    let eight = Asked::Served(8u32, Ok(8));
-    assert!(rt; renamed(&bench, (copies(Echo), same), &each_way(1u32), eight)?);
-    let eight = Asked::Served(8u32, Ok(8));
-    assert!(rt; excused(&bench, (copies(Echo), excuse), &each_way(1u32), eight)?);
+    assert!(rt; changed_make_the_same(&bench, 1)?);
     let eight = Asked::Served(8u32, Ok(8));
     assert!(rt;
         paired(

@@ -1,14 +1,10 @@
-//! Tests of the combinators of factories and of transforms, of configurations and of copies.
+//! Tests of the combinators of factories and of transforms, and of their copies.
 #![tactic(auto)]
 
 #[cfg(test)]
 mod asking;
 #[cfg(test)]
 mod changing;
-#[cfg(test)]
-mod config_tests;
-#[cfg(test)]
-mod configuring;
 #[cfg(test)]
 mod copy_tests;
 #[cfg(test)]
@@ -23,6 +19,8 @@ mod naming;
 mod pairing;
 #[cfg(test)]
 mod pipeline_tests;
+#[cfg(test)]
+mod refusal_tests;
 #[cfg(test)]
 mod services;
 #[cfg(test)]

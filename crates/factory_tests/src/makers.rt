@@ -2,7 +2,7 @@
 ghost use Rattle.std.specs.Prelude.{⊤};
 ghost use Rattle.service_core.specs.Meaning.{GivesOnly};
 
-use crate::services::{Echo, Scoring, Tagging, Telling};
+use crate::services::{Echo, Scoring, Tagging};
 use crate::words::{Denial, Fault, Mark, Word};
 use futures::Future;
 use futures::task::{Context, Poll};
@@ -193,40 +193,6 @@ impl<T: Drop> ServiceFactory<T> for Tags {
 
     fn new_service(&self, cfg: Mark) -> Ready<Result<Tagging, Denial>> {
         ok(Tagging { tag: cfg.word })
-    }
-}
-
-/// Makes services that tell their configuration.
-#[derive(Clone, Copy, Drop)]
-pub(crate) struct Tells;
-
-impl ServiceFactory<()> for Tells {
-    type Response = u32;
-
-    type Error = Fault;
-
-    type Config = u32;
-
-    type Service = Telling<u32>;
-
-    type InitError = Denial;
-
-    type Future = Ready<Result<Telling<u32>, Denial>>;
-
-    ghost may = { λ _ _ _ _. ⊤ };
-
-    ghost may_ready = { λ _ _ _. ⊤ };
-
-    ghost may_begin = { λ _ _ _ f. GivesOnly ⟦<Ready<Result<u32, Fault>> as Future>⟧ f (λ _. ⊤) };
-
-    ghost may_init = { λ _ _ _. ⊤ };
-
-    ghost may_make = { λ _ _. ⊤ };
-
-    ghost begun_gives = { λ s c q f h. h };
-
-    fn new_service(&self, cfg: u32) -> Ready<Result<Telling<u32>, Denial>> {
-        ok(Telling { value: cfg })
     }
 }
 

@@ -134,7 +134,11 @@ where
 }
 
 /// Whether this comes at once in place of a service.
-fn denies<M, S, I>(task: &MockTask, mut making: M, wanted: &I) -> Result<bool, AllocError>
+pub(crate) fn denies<M, S, I>(
+    task: &MockTask,
+    mut making: M,
+    wanted: &I,
+) -> Result<bool, AllocError>
 where
     S: Drop,
     I: NoMemory + PartialEq,

@@ -33,8 +33,8 @@ where
         InitError = A::InitError,
     >
         + Drop,
-    requires first { A.can_make parts.0 }
-    requires second { B.can_make parts.1 }
+    requires first { (made : _) → A.can_make made }
+    requires second { (made : _) → B.can_make made }
 {
     let (first, second) = parts;
     let both = first.and_then(bench.alloc, second)?;
@@ -68,8 +68,8 @@ where
         InitError = A::InitError,
     >
         + Drop,
-    requires first { A.can_make parts.0 }
-    requires second { B.can_make parts.1 }
+    requires first { (made : _) → A.can_make made }
+    requires second { (made : _) → B.can_make made }
 {
     let (first, second) = parts;
     let chain: PipelineFactory<A, Req> = pipeline_factory(first);
@@ -104,8 +104,8 @@ where
         InitError = A::InitError,
     >
         + Drop,
-    requires first { A.can_make parts.0 }
-    requires second { B.can_make parts.1 }
+    requires first { (made : _) → A.can_make made }
+    requires second { (made : _) → B.can_make made }
 {
     let (first, second) = parts;
     let chain: PipelineFactory<A, Req> = pipeline_factory(first);

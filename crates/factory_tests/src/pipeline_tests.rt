@@ -8,27 +8,34 @@ use crate::naming::{excuse, failure, ok_of};
 use crate::pairing::{chained, handed};
 use crate::services::{Echo, Faulty, Obeying, Summing, Tagging};
 use crate::words::{Denial, Failure, Fault, Mark, Single, Word};
+use std::alloc::AllocError;
 use std::cell::Cell;
 use std::test::Fail;
+
+/// Whether a pipeline of services that answer, which is mapped, shows what it has to.
+fn maps(bench: &Bench, asked: Asked<(), &'static str, Fault, Denial>) -> Result<bool, AllocError> {
+    mapped_pipeline(bench, (copies(Echo), ok_of), 1u32, asked)
+}
 
 #[test]
 fn a_pipeline_of_factories_maps_responses(rt: HostRuntime) -> Result<(), Fail> {
     let bench = Bench::new(&rt)?;
-    let answer = Asked::Served((), Ok("ok"));
-    assert!(rt; mapped_pipeline(&bench, (copies(Echo), ok_of), &once(1u32), answer)?);
-    let readiness: Asked<(), _, _, _> = Asked::Readied(Ok(()));
-    assert!(rt; mapped_pipeline(&bench, (copies(Echo), ok_of), &once(1u32), readiness)?);
+    assert!(rt; maps(&bench, Asked::Served((), Ok("ok")))?);
+    assert!(rt; maps(&bench, Asked::Readied(Ok(())))?);
     Ok(())
+}
+
+/// Whether a pipeline of services that err, whose errors are changed, shows what it has to.
+fn renames(bench: &Bench, asked: Asked<(), (), Failure, Denial>) -> Result<bool, AllocError> {
+    let faulty = Faulty { fault: Fault::Bad };
+    renamed_pipeline(bench, (copies(faulty), failure), 1u32, asked)
 }
 
 #[test]
 fn a_pipeline_of_factories_maps_errors(rt: HostRuntime) -> Result<(), Fail> {
     let bench = Bench::new(&rt)?;
-    let faulty = Faulty { fault: Fault::Bad };
-    let answer = Asked::Served((), Err(Failure::Mapped));
-    assert!(rt; renamed_pipeline(&bench, (copies(faulty), failure), &once(1u32), answer)?);
-    let readiness: Asked<(), _, _, _> = Asked::Readied(Err(Failure::Mapped));
-    assert!(rt; renamed_pipeline(&bench, (copies(faulty), failure), &once(1u32), readiness)?);
+    assert!(rt; renames(&bench, Asked::Served((), Err(Failure::Mapped)))?);
+    assert!(rt; renames(&bench, Asked::Readied(Err(Failure::Mapped)))?);
     Ok(())
 }
 
@@ -38,21 +45,28 @@ fn a_pipeline_of_factories_maps_what_comes_in_place_of_a_service(
 ) -> Result<(), Fail> {
     let bench = Bench::new(&rt)?;
     let denial: Asked<u32, _, _, _> = Asked::Denied(Failure::Mapped);
-    assert!(rt; excused_pipeline(&bench, (denies(Denial::First), excuse), &once(1u32), denial)?);
+    assert!(rt; excused_pipeline(&bench, (denies(Denial::First), excuse), 1u32, denial)?);
     Ok(())
+}
+
+/// Whether a pipeline of a part that echoes and one that tags shows what it has to, and counts on.
+fn tags(
+    bench: &Bench,
+    counts: (&Cell<u32>, &Cell<u32>),
+    asked: &Asked<Word, (Word, Word), Fault, Denial>,
+) -> Result<bool, AllocError> {
+    let second = Tagging { tag: Word::Srv2 };
+    let parts = (scored(Echo, counts.0), scored(second, counts.1));
+    chained(bench, parts, &once(1), asked)
 }
 
 #[test]
 fn a_pipeline_of_factories_hands_each_response_on(rt: HostRuntime) -> Result<(), Fail> {
     let bench = Bench::new(&rt)?;
     let (one, two) = (Cell::new(0), Cell::new(0));
-    let second = Tagging { tag: Word::Srv2 };
     let answer = Asked::Served(Word::Srv1, Ok((Word::Srv1, Word::Srv2)));
-    let parts = (scored(Echo, &one), scored(second, &two));
-    assert!(rt; chained(&bench, parts, &once(1), &answer)?);
-    let readiness: Asked<Word, _, _, _> = Asked::Readied(Ok(()));
-    let parts = (scored(Echo, &one), scored(second, &two));
-    assert!(rt; chained(&bench, parts, &once(1), &readiness)?);
+    assert!(rt; tags(&bench, (&one, &two), &answer)?);
+    assert!(rt; tags(&bench, (&one, &two), &Asked::Readied(Ok(())))?);
     assert!(rt; one.get() == 1 && two.get() == 1);
     Ok(())
 }
@@ -62,9 +76,9 @@ fn sums(
     bench: &Bench,
     counts: (&Cell<u32>, &Cell<u32>),
     asked: &Asked<Result<Word, Fault>, (Word, Word), Fault, Denial>,
-) -> Result<bool, Fail> {
+) -> Result<bool, AllocError> {
     let parts = (scored(Obeying, counts.0), scored(Summing, counts.1));
-    Ok(handed(bench, parts, &once(1), asked)?)
+    handed(bench, parts, &once(1), asked)
 }
 
 #[test]
@@ -80,15 +94,17 @@ fn a_pipeline_of_factories_hands_each_result_on(rt: HostRuntime) -> Result<(), F
     Ok(())
 }
 
+/// Whether a pipeline whose parts both come late shows what it has to.
+fn late(bench: &Bench, asked: &Asked<u32, u32, Fault, Denial>) -> Result<bool, AllocError> {
+    let parts = (copies_late(1, Echo), copies_late(1, Obeying));
+    handed(bench, parts, &once(1u32), asked)
+}
+
 #[test]
 fn then_makes_both_parts_at_once(rt: HostRuntime) -> Result<(), Fail> {
     let bench = Bench::new(&rt)?;
-    let waits: Asked<u32, _, _, _> = Asked::Waits;
-    let parts = (copies_late(1, Echo), copies_late(1, Obeying));
-    assert!(rt; handed(&bench, parts, &once(1u32), &waits)?);
-    let polls: Asked<u32, _, _, _> = Asked::Polls(2);
-    let parts = (copies_late(1, Echo), copies_late(1, Obeying));
-    assert!(rt; handed(&bench, parts, &once(1u32), &polls)?);
+    assert!(rt; late(&bench, &Asked::Waits)?);
+    assert!(rt; late(&bench, &Asked::Polls(2))?);
     Ok(())
 }
 

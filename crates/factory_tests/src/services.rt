@@ -211,66 +211,6 @@ impl Service<u32> for Halving {
     }
 }
 
-/// Adds a step to each number.
-#[derive(Clone, Copy, Drop)]
-pub(crate) struct Adding {
-    pub(crate) step: u32,
-}
-
-impl Service<u32> for Adding {
-    type Response = u32;
-
-    type Error = Fault;
-
-    type Future = Ready<Result<u32, Fault>>;
-
-    ghost may = { λ _ _ _. ⊤ };
-
-    ghost may_ready = { λ _ _. ⊤ };
-
-    ghost may_begin = { λ _ _ f. GivesOnly ⟦<Ready<Result<u32, Fault>> as Future>⟧ f (λ _. ⊤) };
-
-    ghost begun_gives = { λ s q f h. h };
-
-    fn poll_ready(&self, _cx: &mut Context<'_>) -> Poll<Result<(), Fault>> {
-        Poll::Ready(Ok(()))
-    }
-
-    fn call(&self, req: u32) -> Ready<Result<u32, Fault>> {
-        ok(req.wrapping_add(self.step))
-    }
-}
-
-/// Answers each request with one value.
-#[derive(Drop)]
-pub(crate) struct Telling<T> {
-    pub(crate) value: T,
-}
-
-impl<T: Copy + Drop> Service<()> for Telling<T> {
-    type Response = T;
-
-    type Error = Fault;
-
-    type Future = Ready<Result<T, Fault>>;
-
-    ghost may = { λ _ _ _. ⊤ };
-
-    ghost may_ready = { λ _ _. ⊤ };
-
-    ghost may_begin = { λ _ _ f. GivesOnly ⟦<Ready<Result<T, Fault>> as Future>⟧ f (λ _. ⊤) };
-
-    ghost begun_gives = { λ s q f h. h };
-
-    fn poll_ready(&self, _cx: &mut Context<'_>) -> Poll<Result<(), Fault>> {
-        Poll::Ready(Ok(()))
-    }
-
-    fn call(&self, _req: ()) -> Ready<Result<T, Fault>> {
-        ok(self.value)
-    }
-}
-
 /// Counts how often its service is asked whether it is ready.
 #[derive(Drop)]
 pub(crate) struct Scoring<'a, S> {

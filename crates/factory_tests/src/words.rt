@@ -53,7 +53,6 @@ impl NoMemory for Failure {
 pub(crate) enum Denial {
     First,
     Second,
-    Unready,
     Memory,
 }
 
@@ -64,14 +63,6 @@ impl NoMemory for Denial {
 
     fn no_memory() -> Denial {
         Denial::Memory
-    }
-}
-
-impl From<Fault> for Denial {
-    ghost from_gives = { λ _ _. ⊤ };
-
-    fn from(_: Fault) -> Denial {
-        Denial::Unready
     }
 }
 

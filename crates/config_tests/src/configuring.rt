@@ -1,7 +1,8 @@
 //! Factories of closures and of configurations, whatever the parts.
 ghost use Rattle.std.specs.Prelude.{◌≡◌};
-ghost use Rattle.service_combine.specs.Applying.{Answers};
+ghost use Rattle.service_combine.specs.Applying.{Answers, TakesLent};
 ghost use Rattle.service_combine.specs.Configuring.{GivesCallable};
+ghost use Rattle.service_combine.specs.Staging.{MakesFrom};
 ghost use denote.Ref.{Bor};
 
 use crate::asking::{Bench, Order, both_show};
@@ -9,7 +10,8 @@ use crate::making::Asked;
 use crate::words::Again;
 use futures::Future;
 use service_combine::{
-    ApplyConfigService, FnServiceConfig, FnServiceNoConfig, MapConfig, UnitConfig, apply_cfg,
+    ApplyConfigService, ApplyConfigServiceFactory, ApplyFactory, FnServiceConfig,
+    FnServiceNoConfig, MapConfig, UnitConfig, apply_cfg, apply_cfg_factory, apply_fn_factory,
     fn_factory, fn_factory_with_config, map_config, unit_config,
 };
 use service_core::{NoMemory, Service, ServiceFactory};
@@ -59,6 +61,32 @@ where
     both_show(bench, factory, copy, order, asked)
 }
 
+/// Whether a factory whose services are lent to a closure shows what it has to.
+pub(crate) fn applied<A, F, Fut, Req, In, Res, E>(
+    bench: &Bench,
+    factory: A,
+    f: F,
+    order: &Order<A::Config>,
+    asked: &Asked<Req, Res, E, A::InitError>,
+) -> Result<bool, AllocError>
+where
+    Req: Copy + Drop,
+    In: Drop,
+    Res: PartialEq + Drop,
+    E: NoMemory + PartialEq,
+    A: ServiceFactory<In, Config: Again, Error = E, Service: Drop, InitError: NoMemory + PartialEq>
+        + Clone
+        + Drop,
+    F: Fn(Req, &A::Service) -> Fut + Drop,
+    Fut: Future<Output = Result<Res, E>>,
+    requires factory { (made : _) → A.can_make made }
+    requires f { (g : F) (s : A.Service) → A.Service.can_call s → TakesLent Fut.Future (F.pre g) (F.post g) s }
+{
+    let applied: ApplyFactory<A, F, Req, In, Res, E> = apply_fn_factory(bench.alloc, factory, f)?;
+    let copy = applied.clone()?;
+    both_show(bench, applied, copy, order, asked)
+}
+
 /// Whether a factory of a closure to which a service is lent shows what it has to.
 pub(crate) fn lent<T, F, Fut, C, S, Req, I>(
     bench: &Bench,
@@ -81,6 +109,39 @@ where
     let lent: ApplyConfigService<T, Req, F, C, Fut, S, I> = apply_cfg(bench.alloc, service, f)?;
     let copy = lent.clone()?;
     both_show(bench, lent, copy, order, asked)
+}
+
+/// Whether a factory of a closure to which a ready service is lent shows what it has to.
+pub(crate) fn awaited<A, F, Fut, C, S, Req>(
+    bench: &Bench,
+    factory: A,
+    f: F,
+    order: &Order<C>,
+    asked: &Asked<Req, S::Response, S::Error, A::InitError>,
+) -> Result<bool, AllocError>
+where
+    C: Again,
+    Req: Copy + Drop,
+    A: ServiceFactory<
+        Req,
+        Config = (),
+        Service: Drop,
+        InitError: From<A::Error> + NoMemory + PartialEq,
+    >
+        + Drop,
+    S: Service<Req, Response: PartialEq + Drop, Error: NoMemory + PartialEq> + Drop,
+    F: Fn(C, &A::Service) -> Fut + Drop,
+    Fut: Future<Output = Result<S, A::InitError>>,
+    requires factory { (made : _) → A.can_make made }
+    requires f { (g : F) (c : C) (s : A.Service) → A.Service.can_call s → MakesFrom Fut.Future (F.pre g) (F.post g) S.can_call c s }
+{
+    let awaited: ApplyConfigServiceFactory<A, Req, F, C, Fut, S> = apply_cfg_factory(
+        bench.alloc,
+        factory,
+        f,
+    )?;
+    let copy = awaited.clone()?;
+    both_show(bench, awaited, copy, order, asked)
 }
 
 /// Whether a factory whose configuration is changed shows what it has to.

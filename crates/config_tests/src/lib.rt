@@ -1,0 +1,23 @@
+//! Tests of the combinators that take a closure or a configuration in place of a factory, and of their copies.
+#![tactic(auto)]
+
+#[cfg(test)]
+mod asking;
+#[cfg(test)]
+mod config_tests;
+#[cfg(test)]
+mod configuring;
+#[cfg(test)]
+mod copy_tests;
+#[cfg(test)]
+mod makers;
+#[cfg(test)]
+mod making;
+#[cfg(test)]
+mod naming;
+#[cfg(test)]
+mod refusal_tests;
+#[cfg(test)]
+mod services;
+#[cfg(test)]
+mod words;

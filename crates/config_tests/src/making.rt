@@ -1,0 +1,198 @@
+//! What a making is asked, whatever it makes.
+ghost use Rattle.std.specs.Prelude.{Ok as IsOk};
+ghost use Rattle.futures.specs.declared.task.Poll.TheVariants.{Ready as PollReady};
+
+use futures::Future;
+use futures::task::{Context, Poll};
+use futures::test::MockTask;
+use service_core::{NoMemory, Service};
+use std::alloc::AllocError;
+use std::marker::PhantomData;
+
+/// What is asked, and what has to show.
+#[derive(Drop)]
+pub(crate) enum Asked<Req, Res, E, I> {
+    /// A service that is made at once answers so at once.
+    Served(Req, Result<Res, E>),
+    /// The readiness of a service that is made at once.
+    Readied(Result<(), E>),
+    /// What comes at once in place of a service.
+    Denied(I),
+    /// The making is pending at its first poll. It is dropped then.
+    Waits,
+    /// How many polls it takes until the making answers, three at most.
+    Polls(u32),
+}
+
+/// The readiness of a service, as a future.
+#[derive(Drop)]
+struct Readiness<S, Req> {
+    service: S,
+    request: PhantomData<Req>,
+}
+
+impl<S: Service<Req> + Drop, Req> Future for Readiness<S, Req> {
+    type Output = Result<(), S::Error>;
+
+    ghost can_poll = { λ a. S.can_call a.service };
+
+    ghost gives = { λ a r. S.may_ready a.service (PollReady r) };
+
+    fn poll(&mut self, cx: &mut Context<'_>) -> Poll<Result<(), S::Error>> {
+        self.service.poll_ready(cx)
+    }
+}
+
+/// That something else came: an error where it is want of memory.
+fn is_other<E: NoMemory + PartialEq>(error: E) -> Result<bool, AllocError> {
+    if error == E::no_memory() {
+        Err(AllocError)
+    } else {
+        Ok(false)
+    }
+}
+
+/// Whether an error is the one that is wanted.
+fn is_error<E: NoMemory + PartialEq>(error: E, wanted: &E) -> Result<bool, AllocError> {
+    if error == *wanted {
+        Ok(true)
+    } else {
+        is_other(error)
+    }
+}
+
+/// Whether an answer is there and the one that is wanted.
+fn is_answer<T, E>(answer: Poll<Result<T, E>>, wanted: &Result<T, E>) -> Result<bool, AllocError>
+where
+    T: PartialEq + Drop,
+    E: NoMemory + PartialEq,
+{
+    match answer {
+        Poll::Ready(Ok(value)) => match wanted {
+            Ok(other) => Ok(value == *other),
+            Err(_) => Ok(false),
+        },
+        Poll::Ready(Err(error)) => match wanted {
+            Ok(_) => is_other(error),
+            Err(other) => is_error(error, other),
+        },
+        Poll::Pending => Ok(false),
+    }
+}
+
+/// Whether a service that is made at once answers so at once.
+fn serves<M, S, Req, I>(
+    task: &MockTask,
+    mut making: M,
+    req: Req,
+    wanted: &Result<S::Response, S::Error>,
+) -> Result<bool, AllocError>
+where
+    Req: Drop,
+    S: Service<Req, Response: PartialEq + Drop, Error: NoMemory + PartialEq> + Drop,
+    I: NoMemory + PartialEq,
+    M: Future<Output = Result<S, I>>,
+    requires pollable { M.can_poll making }
+    requires callable { (s : S) → M.gives making (IsOk s) → S.can_call s }
+{
+    match task.poll(&mut making) {
+        Poll::Ready(Ok(service)) => {
+            let mut future = service.call(req);
+            let answer = task.poll(&mut future);
+            is_answer(answer, wanted)
+        }
+        Poll::Ready(Err(error)) => is_other(error),
+        Poll::Pending => Ok(false),
+    }
+}
+
+/// Whether the readiness of a service that is made at once is so.
+fn readies<M, S, Req, I>(
+    task: &MockTask,
+    mut making: M,
+    wanted: &Result<(), S::Error>,
+) -> Result<bool, AllocError>
+where
+    S: Service<Req, Error: NoMemory + PartialEq> + Drop,
+    I: NoMemory + PartialEq,
+    M: Future<Output = Result<S, I>>,
+    requires pollable { M.can_poll making }
+    requires callable { (s : S) → M.gives making (IsOk s) → S.can_call s }
+{
+    match task.poll(&mut making) {
+        Poll::Ready(Ok(service)) => {
+            let mut readiness = Readiness {
+                service,
+                request: PhantomData,
+            };
+            let answer = task.poll(&mut readiness);
+            is_answer(answer, wanted)
+        }
+        Poll::Ready(Err(error)) => is_other(error),
+        Poll::Pending => Ok(false),
+    }
+}
+
+/// Whether this comes at once in place of a service.
+pub(crate) fn denies<M, S, I>(
+    task: &MockTask,
+    mut making: M,
+    wanted: &I,
+) -> Result<bool, AllocError>
+where
+    S: Drop,
+    I: NoMemory + PartialEq,
+    M: Future<Output = Result<S, I>>,
+    requires { M.can_poll making }
+{
+    match task.poll(&mut making) {
+        Poll::Ready(Err(error)) => is_error(error, wanted),
+        _ => Ok(false),
+    }
+}
+
+/// How many polls it takes until a making answers, where that is three at most.
+fn polls_of<M: Future<Output: Drop>>(task: &MockTask, mut making: M) -> u32
+    requires { M.can_poll making }
+{
+    let Poll::Pending = task.poll(&mut making) else {
+        return 1;
+    };
+    let Poll::Pending = task.poll(&mut making) else {
+        return 2;
+    };
+    let Poll::Pending = task.poll(&mut making) else {
+        return 3;
+    };
+    4
+}
+
+/// Whether a making is pending at its first poll. It is dropped then.
+fn waits<M: Future<Output: Drop>>(task: &MockTask, mut making: M) -> bool
+    requires { M.can_poll making }
+{
+    task.poll(&mut making).is_pending()
+}
+
+/// Whether a making shows what it has to.
+pub(crate) fn making_shows<M, S, Req, I>(
+    task: &MockTask,
+    making: M,
+    asked: &Asked<Req, S::Response, S::Error, I>,
+) -> Result<bool, AllocError>
+where
+    Req: Copy + Drop,
+    S: Service<Req, Response: PartialEq + Drop, Error: NoMemory + PartialEq> + Drop,
+    I: NoMemory + PartialEq,
+    M: Future<Output = Result<S, I>>,
+    requires pollable { M.can_poll making }
+    requires callable { (s : S) → M.gives making (IsOk s) → S.can_call s }
+{
+    match asked {
+        Asked::Served(req, answer) => serves(task, making, *req, answer),
+        Asked::Readied(answer) => readies::<M, S, Req, I>(task, making, answer),
+        Asked::Denied(denial) => denies(task, making, denial),
+        Asked::Waits => Ok(waits(task, making)),
+        Asked::Polls(polls) => Ok(polls_of(task, making) == *polls),
+    }
+}
