@@ -1,5 +1,5 @@
 //! What a making is asked, whatever it makes.
-ghost use Rattle.std.specs.Prelude.{Ok as IsOk};
+ghost use Rattle.std.specs.Prelude.{Ok as Made};
 ghost use Rattle.futures.specs.declared.task.Poll.TheVariants.{Ready as PollReady};
 
 use futures::Future;
@@ -93,7 +93,7 @@ where
     I: NoMemory + PartialEq,
     M: Future<Output = Result<S, I>>,
     requires pollable { M.can_poll making }
-    requires callable { (s : S) → M.gives making (IsOk s) → S.can_call s }
+    requires callable { (s : S) → M.gives making (Made s) → S.can_call s }
 {
     match task.poll(&mut making) {
         Poll::Ready(Ok(service)) => {
@@ -117,7 +117,7 @@ where
     I: NoMemory + PartialEq,
     M: Future<Output = Result<S, I>>,
     requires pollable { M.can_poll making }
-    requires callable { (s : S) → M.gives making (IsOk s) → S.can_call s }
+    requires callable { (s : S) → M.gives making (Made s) → S.can_call s }
 {
     match task.poll(&mut making) {
         Poll::Ready(Ok(service)) => {
@@ -186,7 +186,7 @@ where
     I: NoMemory + PartialEq,
     M: Future<Output = Result<S, I>>,
     requires pollable { M.can_poll making }
-    requires callable { (s : S) → M.gives making (IsOk s) → S.can_call s }
+    requires callable { (s : S) → M.gives making (Made s) → S.can_call s }
 {
     match asked {
         Asked::Served(req, answer) => serves(task, making, *req, answer),

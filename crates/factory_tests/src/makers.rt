@@ -244,7 +244,7 @@ pub(crate) fn scored<S>(service: S, polls: &Cell<u32>) -> Scores<'_, S> {
 }
 
 /// Wraps each service in itself, after some polls.
-#[derive(Drop)]
+#[derive(Clone, Copy, Drop)]
 pub(crate) struct Passing {
     pub(crate) waits: u32,
 }

@@ -75,3 +75,27 @@ where
     let excused = transform.map_init_err(bench.alloc, f)?;
     wraps_each_way(bench, excused, &asked)
 }
+
+/// Whether a transform whose own errors are changed, and a copy of it, each show what they have to.
+pub(crate) fn copied_transform<T, F, Mid, E>(
+    bench: &Bench,
+    parts: (T, F),
+    asked: Asked<u32, u32, Fault, E>,
+) -> Result<bool, AllocError>
+where
+    E: NoMemory + PartialEq,
+    Mid: Drop,
+    T: Transform<Echo, u32, Response = u32, Error = Fault, Transform: Drop, InitError = Mid>
+        + Clone
+        + Drop,
+    F: Fn(Mid) -> E + Drop,
+    requires transform { (made : _) → (service : _) → T.can_make made service }
+    requires f { F.IsAlwaysCallable parts.1 }
+{
+    let (transform, f) = parts;
+    let excused = transform.map_init_err(bench.alloc, f)?;
+    let first = wraps(&bench.task, &excused, &asked)?;
+    let copy = excused.clone()?;
+    let second = wraps(&bench.task, &copy, &asked)?;
+    Ok(first && second)
+}
