@@ -1,14 +1,58 @@
 //! A policy over a factory of services.
-use crate::inner::{Failed, page};
+ghost use Rattle.std.specs.Prelude.{⊤};
+ghost use Rattle.service_core.specs.Meaning.{GivesOnly};
+
+use crate::inner::{Failed, Inner};
 use cors_answer::Cors;
 use cors_policy::NoRule;
+use futures::Future;
 use futures::task::Poll;
 use futures::test::MockTask;
-use http1_plain::Request;
-use service_core::{ServiceFactory, apply, fn_service};
+use http1_plain::{Request, Response};
+use service_core::{NoMemory, Ready, ServiceFactory, Transform, apply, ok};
+use std::alloc::{AllocError, Global};
 use std::test::Fail;
 
-// Whether the factory makes a service at once.
+/// Makes the service under the policies.
+#[derive(Drop)]
+struct Maker {
+    alloc: Global,
+}
+
+impl ServiceFactory<Request> for Maker {
+    type Response = Response;
+
+    type Error = Failed;
+
+    type Config = ();
+
+    type Service = Inner;
+
+    type InitError = AllocError;
+
+    type Future = Ready<Result<Inner, AllocError>>;
+
+    ghost may = { λ _ _ _ _. ⊤ };
+
+    ghost may_ready = { λ _ _ _. ⊤ };
+
+    ghost may_begin = { λ _ _ _ f. GivesOnly ⟦<Ready<Result<Response, Failed>> as Future>⟧ f (λ _. ⊤) };
+
+    ghost may_init = { λ _ _ _. ⊤ };
+
+    ghost may_make = { λ _ _. ⊤ };
+
+    ghost begun_gives = { λ m c q f h. h };
+
+    fn new_service(&self, _cfg: ()) -> Ready<Result<Inner, AllocError>> {
+        ok(Inner {
+            alloc: self.alloc,
+            is_empty: false,
+        })
+    }
+}
+
+// Whether a factory makes a service at once.
 fn makes<F>(task: &MockTask, factory: F) -> Result<bool, F::InitError>
 where
     F: ServiceFactory<Request, Config = (), Service: Drop> + Drop,
@@ -22,13 +66,27 @@ where
     }
 }
 
+// Whether a factory under a transform makes a service at once.
+fn makes_under<T>(
+    task: &MockTask,
+    alloc: Global,
+    transform: T,
+    factory: Maker,
+) -> Result<bool, T::InitError>
+where
+    T: Transform<Inner, Request, Transform: Drop, InitError: From<AllocError> + NoMemory + Drop>
+        + Drop,
+    requires { (service : _) → T.can_make transform service }
+{
+    let wrapped = apply(alloc, transform, factory)?;
+    makes(task, wrapped)
+}
+
 #[test]
 fn a_default_policy_makes_a_middleware(rt: HostRuntime) -> Result<(), Fail> {
     let task = MockTask::new(&rt)?;
     let alloc = rt.alloc();
-    let handler = fn_service(alloc, move |_: Request| page(alloc))?;
     let policy: Cors<NoRule> = Cors::default(alloc);
-    let wrapped = apply(alloc, policy, handler)?;
-    assert!(rt; makes(&task, wrapped)?);
+    assert!(rt; makes_under(&task, alloc, policy, Maker { alloc })?);
     Ok(())
 }

@@ -1,5 +1,5 @@
 //! The service under the policies.
-ghost use Rattle.std.specs.Prelude.{None, IsSome};
+ghost use Rattle.std.specs.Prelude.{None};
 ghost use Rattle.service_core.specs.Meaning.{GivesOnly};
 
 use crate::asking::list_of;
@@ -71,15 +71,5 @@ impl Service<Request> for Inner {
             Ok(response) => ok(response),
             Err(_) => err(Failed),
         }
-    }
-}
-
-/// The page, as a future that is there at once.
-pub(crate) fn page(alloc: Global) -> Ready<Result<Response, Failed>>
-    ensures { IsSome result.value }
-{
-    match hello(alloc) {
-        Ok(response) => ok(response),
-        Err(_) => err(Failed),
     }
 }
