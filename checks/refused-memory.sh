@@ -53,20 +53,11 @@ def replay_is_allowed(whole):
 def shows_memory(text):
     return bool(re.search(r"(?m)^\d+\.\d+ memory |^end memory$", text))
 
-# A test ends by an error of memory, or stops where it compares what it has made of one: the outcome `Memory`, nothing
-# where something was wanted, no status where one was wanted, the status 7, or a text that says so.
-ERROR = re.compile(r"(?m)^error: .*(?:Memory|Alloc)|: Memory$")
-COMPARED = re.compile(r"(?m)^ *left: (\S*\(Memory\)+|None(?=\n *right: Some\()|7|0(?=\n *right: 20[04]$)|\[[0-9, ]+\])$")
-
-# One test has a sink of ten bytes.
-def says_memory(text):
-    return text in ("memory", "error", "out of memory\n", "out of memory\n"[:10]) or shows_memory(text)
+# A test ends by an error of memory.
+ERROR = re.compile(r"(?m)^error: .*(?:Memory|Alloc)")
 
 def test_is_allowed(status, text):
-    if status == 0 or ERROR.search(text):
-        return True
-    left = COMPARED.search(text)
-    return bool(left) and (left[1][0] != "[" or says_memory(bytes(map(int, left[1][1:-1].split(","))).decode(errors="replace")))
+    return status == 0 or bool(ERROR.search(text))
 
 runs = []
 program = f"{top}/crates/dongurapi/out/dongurapi"
