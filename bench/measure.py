@@ -10,8 +10,9 @@ sys.dont_write_bytecode = True
 def spent(command, wanted, given=None):
     """The processor seconds and the most memory in KB of a program that has to end well and to print what is wanted (None: anything)."""
     with open(given or os.devnull, "rb") as stdin:
-        child = subprocess.Popen([*map(str, command)], stdin=stdin, stdout=subprocess.PIPE)
-        printed = child.stdout.read()
+        to = subprocess.DEVNULL if wanted is None else subprocess.PIPE
+        child = subprocess.Popen([*map(str, command)], stdin=stdin, stdout=to)
+        printed = b"" if wanted is None else child.stdout.read()
         _, status, used = os.wait4(child.pid, 0)
     if status != 0 or wanted is not None and printed != wanted:
         sys.exit(f"{command} ended with status {status} and printed {printed[-300:]!r}")

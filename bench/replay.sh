@@ -13,20 +13,25 @@ import os, sys
 from measure import least, spent
 program, work = sys.argv[1:]
 
-# A script of so many bytes of lines of 64 bytes: comments before the listener, or `give` lines of the connection.
-def script(kind, size):
+# Writes a script of so many bytes of lines of 64 bytes: comments before the listener, or `give` lines of the connection.
+# (line by line, since a child begins with the memory of this process in its account)
+def write_script(path, kind, size):
     comments = kind == "comments"
     line = b"#" + b"c" * 62 + b"\n" if comments else b"give " + b"x" * 58 + b"\n"
-    text = line * (size // 64)
-    return text + b"listener\n" if comments else b"listener\nconn 10.0.0.1:5000\n" + text
+    with open(path, "wb") as file:
+        if not comments:
+            file.write(b"listener\nconn 10.0.0.1:5000\n")
+        for _ in range(size // 64):
+            file.write(line)
+        if comments:
+            file.write(b"listener\n")
 
 failed = False
 for kind in ("comments", "give"):
     took, grown = {}, 0
     for mb in (1, 2, 8, 16):
         given = f"{work}/{kind}.{mb}"
-        with open(given, "wb") as file:
-            file.write(script(kind, mb * 1_000_000))
+        write_script(given, kind, mb * 1_000_000)
         size = os.path.getsize(given)
         took[mb] = least([program, "replay"], None, given)
         memory = spent([program, "replay"], None, given)[1]
