@@ -1,20 +1,16 @@
 -- Only where the policy grants does an answer tell a grant.
-use Rattle.std.proofs.Common.{◌≡◌, ◌&&◌, ℕ, Bool, true, false, cond, List, [], Option, Some, None, Result, Ok, Err, is_some, inl, inr, refl, ◌∙◌, codes}
+use Rattle.std.proofs.Common.{◌≡◌, ℕ, Bool, true, false, cond, List, [], Option, Some, None, Result, Ok, Err, is_some, inl, inr, refl, ◌∙◌, codes}
 use Rattle.std.proofs.lemmas.Bool.{cases_Bool}
-use Rattle.http1_grammar.specs.Headers.{Header, get_all}
 use Rattle.http1_grammar.specs.Head.{Head}
 use Rattle.http1_grammar.specs.Wire.{Response}
 use Rattle.cors_rules.specs.declared.cors_error.CorsError.{CorsError}
 use Rattle.cors_rules.specs.declared.cors_error.CorsError.TheVariants.{OriginNotAllowed}
 use Rattle.cors_rules.specs.Policy.{Policy}
 use Rattle.cors_rules.specs.Origins.{IsGranted, Rules, grants, grants_everyone, origin_of, validate_given, validate_origin}
-use Rattle.cors_rules.specs.Requested.{Check, is_preflight, validate_allowed_headers, validate_allowed_method}
-use Rattle.cors_rules.specs.Answers.{and_then, by_grant, by_verdict, judged, must_grant, preflight_answer, preflight_check, verdict}
+use Rattle.cors_rules.specs.Requested.{Check, validate_allowed_headers, validate_allowed_method}
+use Rattle.cors_rules.specs.Fields.{told}
+use Rattle.cors_rules.specs.Answers.{and_then, by_grant, by_verdict, judged, must_grant, preflight_answer, preflight_check, takes_preflight, verdict}
 use Rattle.cors_rules.proofs.LawSteps.{augmented_grant, varied_other}
-
--- the values of the header that tells a grant
-abbrev told : List Header → List (List ℕ)
-told headers = get_all headers (codes "access-control-allow-origin")
 
 module _ {G : Type 0} (allows : Rules G) (policy : Policy G) (head : Head) where
   given_grants : (origin : Option (List ℕ)) → origin_of head ≡ origin → validate_given allows policy head origin ≡ Ok true → IsGranted allows policy head
@@ -61,7 +57,7 @@ module _ {G : Type 0} (allows : Rules G) (policy : Policy G) (head : Head) where
       → IsGranted allows policy head
   unfolding verdict
   told_grants inner none some =
-      elim (cases_Bool (policy.preflight && is_preflight head)) [
+      elim (cases_Bool (takes_preflight policy head)) [
         | inl preflighted ↦
             let some' = rw preflighted at some in
             checked (validate_origin allows policy head) refl (and_then (validate_allowed_method policy head) (validate_allowed_headers policy head)) (preflight_check allows policy head) refl some'

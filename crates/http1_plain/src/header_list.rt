@@ -7,7 +7,8 @@ use http_header::HeaderName;
 use std::alloc::{AllocError, Global};
 use std::marker::Model;
 
-/// Headers in order (RFC 9110, section 5.3). A contract sees the pairs of their names, in lower case, and values.
+/// Headers in order (RFC 9110, section 5.3; actix-http, `HeaderMap`). A contract sees the pairs of their names, in lower case,
+/// and values.
 #[derive(Drop)]
 pub struct HeaderList {
     entries: Vec<(HeaderName, FieldValue)>,
@@ -169,11 +170,11 @@ impl HeaderList {
         *self.entries.allocator()
     }
 
-    /// An equal list.
-    pub fn copy(&self, alloc: Global) -> Result<HeaderList, AllocError>
+    /// An equal list, where this one lives, or an error where memory ran out.
+    pub fn copy(&self) -> Result<HeaderList, AllocError>
         ensures { IfOk result (λ copy. copy ≡ self.now) }
     {
-        let mut list = HeaderList::new(alloc);
+        let mut list = HeaderList::new(self.allocator());
         for (name, value) in &self.entries {
             list.append(name.clone()?, value.copy()?)?;
         }

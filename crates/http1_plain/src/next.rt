@@ -44,7 +44,7 @@ fn judge(alloc: Global, limits: Limits, text: &[u8], used: usize) -> Result<Next
     }
 }
 
-/// Cuts the next request head from the bytes that were not used yet.
+/// Cuts the next request head (RFC 9112, sections 2 and 3) from the bytes that were not used yet, or errs where memory ran out.
 pub fn next_head(alloc: Global, limits: Limits, bytes: &[u8]) -> Result<NextHead, AllocError>
     ensures step { IfOk result (λ found. step_of bytes.now found ≡ next limits bytes.now) }
     ensures within { IfOk result (IsWithin (length bytes.now)) }

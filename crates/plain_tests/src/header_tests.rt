@@ -82,7 +82,7 @@ fn loses(list: &mut HeaderList, name: &HeaderName, wanted: usize) -> bool {
 fn a_copy_stays_where_its_list_is_changed(rt: HostRuntime) -> Result<(), Fail> {
     let alloc = rt.alloc();
     let mut list = four_headers(alloc)?;
-    let copy = list.copy(list.allocator())?;
+    let copy = list.copy()?;
     assert!(rt; loses(&mut list, &AGE, 1));
     assert!(rt; has_lines(alloc, &list, b"vary=a;vary=b;vary=c;")?);
     assert!(rt; has_lines(alloc, &copy, b"vary=a;age=1;vary=b;vary=c;")?);

@@ -2,6 +2,8 @@
 #![tactic(auto)]
 
 #[cfg(test)]
+mod all_or_some_tests;
+#[cfg(test)]
 mod bytes;
 #[cfg(test)]
 mod header_tests;
