@@ -1,14 +1,13 @@
 -- One accept more.
-use Rattle.std.proofs.Common.{◌≡◌, ◌≢◌, ℕ, zero, suc, ◌+◌, ◌-◌, ◌<◌, ◌≤◌, ◌==◌, ◌&&◌, nat_lt, Bool, true, false, if◌then◌else◌, cond, List, [], ◌∷◌, ◌++◌, length, take, drop, Option, Some, None, IfSome, slice_get, set, All, refl, sym, ◌∙◌, ap, arith, inl, inr, subst, length-append}
-use Rattle.std.specs.List.{count_by}
-use Rattle.std.specs.Option.{option_map, option_map_or, option_and_then}
+use Rattle.std.proofs.Common.{◌≡◌, ℕ, ◌+◌, ◌-◌, ◌<◌, ◌≤◌, ◌==◌, ◌&&◌, List, [], ◌∷◌, ◌++◌, length, drop, Option, Some, IfSome, slice_get, set, sym, arith, inl, inr, length-append}
+use Rattle.std.specs.Option.{option_map}
 use Rattle.std.proofs.lemmas.Bool.Decides.{nat_tests}
 use Rattle.std.proofs.lemmas.Bool.{cases_eq}
 use Rattle.std.proofs.lemmas.List.Elements.{All-nil, All-push}
 use Rattle.server_run.specs.declared.entry.Entry.{Entry}
 use Rattle.service_core.specs.declared.ended.Ended.{Ended}
 use Rattle.service_core.specs.Link.{Identity}
-use Rattle.server_run.specs.Delivery.{Delivers, IsServedFrom, rise, given_at, left_at, place_count, serial_count, once_below}
+use Rattle.server_run.specs.Delivery.{Delivers, IsServedFrom, rise, given_at, left_at, place_count, once_below}
 use Rattle.server_run.proofs.Lists.{once_below-zero, once_below-more, count_by-push, slice_get-set_same, slice_get-set_other, first_left, drop_none}
 
 module _ {Li L : Type 0} (given : Li → ℕ) (left : Li → Option (List L)) (identity : L → Identity) (may_serve : ℕ → L → Ended L → Type 0) (may_leave : ℕ → L → L → Type 0) where

@@ -1,6 +1,5 @@
 -- How far the accept loop has come.
-use Rattle.std.proofs.Common.{◌≡◌, ◌≢◌, ◌<◌, ◌≤◌, ℕ, ◌+◌, ◌-◌, ◌*◌, ◌^◌, min, Bool, true, false, IsTrue, List, [], ◌∷◌, ◌++◌, length, drop, set, Option, Some, None, IfSome, slice_get, refl, sym, ◌∙◌, ap, inl, inr, arith, length-append, append_assoc, subst}
-use Rattle.std.specs.List.{count_by}
+use Rattle.std.proofs.Common.{◌≡◌, ◌≢◌, ◌<◌, ◌≤◌, ℕ, ◌+◌, ◌*◌, ◌^◌, Bool, IsTrue, List, [], ◌∷◌, ◌++◌, length, set, Option, Some, None, IfSome, slice_get, refl, sym, ◌∙◌, ap, inl, inr, arith, length-append, append_assoc, subst}
 use Rattle.std.specs.Option.{option_map}
 use Rattle.std.proofs.Math.ListN.{length-set}
 use Rattle.std.proofs.lemmas.List.{append-nil}
@@ -8,8 +7,8 @@ use Rattle.std.proofs.lemmas.Bool.{cases_eq}
 use Rattle.server_run.specs.declared.entry.Entry.{Entry}
 use Rattle.service_core.specs.declared.ended.Ended.{Ended}
 use Rattle.service_core.specs.Link.{Identity}
-use Rattle.server_run.specs.Done.{Adds, Keeps, counted, served_count, is_served}
-use Rattle.server_run.specs.Delivery.{ComesBack, Delivers, HasEnded, IsServedFrom, rise, given_at, left_at}
+use Rattle.server_run.specs.Done.{Adds, Keeps, is_served}
+use Rattle.server_run.specs.Delivery.{ComesBack, Delivers, HasEnded, rise, given_at, left_at}
 use Rattle.server_run.proofs.Lists.{count_by-push, slice_get-set_same, slice_get-set_other}
 use Rattle.server_run.proofs.Deliver.{delivers_none, delivers_kept, delivers_got}
 
@@ -26,6 +25,8 @@ pub record Progress {Li L D : Type 0} (given : Li → ℕ) (left : Li → Option
   -- those before the token have ended, those behind it weren't asked
   pub front : (t : ℕ) → t < token → HasEnded ended new t
   pub behind : (t : ℕ) → token < t → slice_get new t ≡ slice_get old t
+  -- and none of them ended meanwhile
+  pub ahead : (t : ℕ) → token ≤ t → HasEnded ended new t → HasEnded ended old t
   pub few : serial ≤ token * 2 ^ 48 + place
   pub small : place < 2 ^ 48
 
@@ -72,6 +73,7 @@ module _ {Li L D : Type 0} (given : Li → ℕ) (left : Li → Option (List L)) 
     as_many = refl;
     front = λ t below. absurd (omega arith);
     behind = λ t above. refl;
+    ahead = λ t onward has. has;
     few = omega arith;
     small = omega arith;
   }
@@ -91,6 +93,18 @@ module _ {Li L D : Type 0} (given : Li → ℕ) (left : Li → Option (List L)) 
     is : slice_get (set new token next) token ≡ Some next
     is = slice_get-set_same new token next inside
 
+    -- a listener behind the token stands as it stood
+    ahead_other : (t : ℕ) → t ≢ token → token ≤ t → HasEnded ended (set new token next) t → HasEnded ended old t
+    ahead_other t other onward has =
+        so_far.ahead t onward (subst (λ (found : Option Li). IfSome found (λ l. IsTrue (ended l))) (slice_get-set_other new token t next other) has)
+
+    -- as does the one at the token, while it has not ended
+    ahead : (¬ IsTrue (ended next)) → (t : ℕ) → token ≤ t → HasEnded ended (set new token next) t → HasEnded ended old t
+    ahead still t onward has = elim (cases_eq t token) [
+      | inl here ↦ absurd (still (subst (λ (found : Option Li). IfSome found (λ l. IsTrue (ended l))) (ap (slice_get (set new token next)) here ∙ is) has))
+      | inr other ↦ ahead_other t other onward has
+    ]
+
     now_given : given_at given new token ≡ given li
     now_given = rw was
 
@@ -98,9 +112,9 @@ module _ {Li L D : Type 0} (given : Li → ℕ) (left : Li → Option (List L)) 
     new_given = rw is
 
     -- an accept that gave no link
-    pub progress_kept : left next ≡ left li → given next ≡ given li
+    pub progress_kept : left next ≡ left li → given next ≡ given li → (¬ IsTrue (ended next))
         → Progress given left ended identity may_serve may_leave taken count served old (set new token next) before roomy token serial place
-    progress_kept same_left same_given = record {
+    progress_kept same_left same_given still = record {
       entries = so_far.entries;
       adds = adds_kept taken count served before after roomy so_far.entries so_far.adds keeps;
       delivers = delivers_kept given left identity may_serve may_leave old new so_far.entries token li next so_far.delivers was inside same_left same_given;
@@ -110,6 +124,7 @@ module _ {Li L D : Type 0} (given : Li → ℕ) (left : Li → Option (List L)) 
       as_many = as_many;
       front = front;
       behind = behind;
+      ahead = ahead still;
       few = so_far.few;
       small = so_far.small;
     }
@@ -130,6 +145,7 @@ module _ {Li L D : Type 0} (given : Li → ℕ) (left : Li → Option (List L)) 
         | inr other ↦ front t (omega arith)
       ];
       behind = λ t above. behind t (omega arith);
+      ahead = λ t onward has. ahead_other t (omega arith) (omega arith) has;
       few = let f = so_far.few in let s = so_far.small in omega arith;
       small = omega arith;
     }
@@ -137,11 +153,11 @@ module _ {Li L D : Type 0} (given : Li → ℕ) (left : Li → Option (List L)) 
     -- an accept that gave a link, which was served and handed on
     pub progress_got : (last : D) (link : L) (entry : Entry L)
         → Adds taken count served roomy last (entry ∷ [])
-        → left li ≡ option_map (λ links. link ∷ links) (left next) → given next ≡ given li + 1 → given next < 2 ^ 48
+        → left li ≡ option_map (λ links. link ∷ links) (left next) → given next ≡ given li + 1 → given next < 2 ^ 48 → (¬ IsTrue (ended next))
         → entry.serial ≡ serial → entry.token ≡ token → entry.place ≡ place
         → identity entry.link ≡ identity link → ComesBack (may_serve token) (may_leave token) link entry.link entry.outcome
         → Progress given left ended identity may_serve may_leave taken count served old (set new token next) before last token (serial + 1) (place + 1)
-    progress_got last link entry adds got more little serial_is token_is place_is same back = record {
+    progress_got last link entry adds got more little still serial_is token_is place_is same back = record {
       entries = so_far.entries ++ entry ∷ [];
       adds = adds_more taken count served before roomy last so_far.entries entry (adds_kept taken count served before after roomy so_far.entries so_far.adds keeps) adds;
       delivers = delivers_got given left identity may_serve may_leave old new so_far.entries token li next so_far.delivers was inside link entry got more
@@ -158,6 +174,7 @@ module _ {Li L D : Type 0} (given : Li → ℕ) (left : Li → Option (List L)) 
       as_many = as_many;
       front = front;
       behind = behind;
+      ahead = ahead still;
       few = let f = so_far.few in omega arith;
       small = let p = so_far.place_is in omega (arith, now_given, new_given);
     }

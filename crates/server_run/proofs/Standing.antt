@@ -1,8 +1,8 @@
 -- What a service of a token is known to do with a link.
-use Rattle.std.proofs.Common.{◌≡◌, ◌⊎◌, Result, Ok, Err, inl, inr}
+use Rattle.std.proofs.Common.{◌≡◌, Ok, inl, inr}
 use Rattle.service_core.specs.Link.{Identity}
 use Rattle.service_core.specs.Making.{LiesWithin}
-use Rattle.service_core.specs.Meaning.{Readiness, Within}
+use Rattle.service_core.specs.Meaning.{Readiness}
 use Rattle.service_core.specs.declared.ended.Ended.{Ended}
 use Rattle.service_core.specs.declared.service.Service.{Ghosts as ServiceOf}
 use Rattle.service_core.specs.declared.service_factory.ServiceFactory.{Ghosts as FactoryOf}

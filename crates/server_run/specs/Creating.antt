@@ -1,8 +1,7 @@
 -- What a factory of connections' services says of the services that it makes.
-use Rattle.std.specs.Prelude.{◌≡◌, ◌⊎◌, ⊤, ℕ, Result, Ok, Err}
+use Rattle.std.specs.Prelude.{◌<◌, ⊤, ℕ, Result, Ok, Err}
 use Rattle.service_core.specs.Meaning.{Readiness, Within}
 use Rattle.service_core.specs.declared.ended.Ended.{Ended}
-use Rattle.service_core.specs.declared.ended.How.{How}
 use Rattle.service_core.specs.declared.service.Service.{Ghosts as ServiceOf}
 use Rattle.service_core.specs.declared.service_factory.ServiceFactory.{Ghosts as FactoryOf}
 use Rattle.server_run.specs.declared.drive.Finished.{Finished}
@@ -45,8 +44,8 @@ abbrev pub Finishes : {S L E Fut : Type 0} → ServiceOf S L (Ended L) E Fut →
 Finishes g may_stand service link finished =
     ComesBack (λ given ended. g.may service given (Ok ended)) (HandsBack g may_stand service) link finished.link finished.outcome
 
--- an error of a factory is one that the factory of its token may answer
-abbrev pub IsStartup : {I : Type 0} → (ℕ → I → Type 0) → ServeError I → Type 0
-IsStartup may_init NoListener = ⊤
-IsStartup may_init (Startup worker token error) = (worker ≡ 0) × may_init token error
-IsStartup may_init Memory = ⊤
+-- an error of a factory names one of so many workers and of so many listeners, and is one that the factory of its token may answer
+abbrev pub IsStartup : {I : Type 0} → ℕ → ℕ → (ℕ → I → Type 0) → ServeError I → Type 0
+IsStartup workers listeners may_init NoListener = ⊤
+IsStartup workers listeners may_init (Startup worker token error) = (worker < workers) × (token < listeners) × may_init token error
+IsStartup workers listeners may_init Memory = ⊤

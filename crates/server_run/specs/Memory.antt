@@ -1,5 +1,5 @@
 -- What the objects in memory tell.
-use Rattle.std.specs.Prelude.{ℕ, List, [], ◌∷◌}
+use Rattle.std.specs.Prelude.{List, [], ◌∷◌}
 use Rattle.server_run.specs.declared.memory_link.MemoryLink.{MemoryLink}
 use Rattle.server_run.specs.declared.listener_step.ListenerStep.{ListenerStep}
 use Rattle.server_run.specs.declared.listener_step.ListenerStep.TheVariants.{Give, NotYet, Skip, Fail}

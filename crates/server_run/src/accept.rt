@@ -1,51 +1,16 @@
 //! The accept loop: a connection is served to its end before the next is accepted.
-ghost use Rattle.std.specs.Prelude.{◌≡◌, ◌<◌, ◌≤◌, ℕ, List, length, vec_len, IfOk, IfErr, Err};
+ghost use Rattle.std.specs.Prelude.{◌≡◌, ◌<◌, ◌≤◌, ℕ, List, length, vec_len, Err};
 ghost use Rattle.futures.specs.declared.task.Poll.TheVariants.{Ready as PollReady};
-ghost use Rattle.server_run.specs.Creating.{IsStartup, Stands};
+ghost use Rattle.server_run.specs.Creating.{Stands};
 ghost use Rattle.server_run.specs.Done.{Adds};
 ghost use Rattle.server_run.specs.Delivery.{Delivers, HasEnded};
 ghost use Rattle.server_run.specs.declared.entry.Entry.{Entry};
 
-use crate::drive::{become_ready, drive, serve_link};
-use crate::{Accepted, Done, Entry, Listener, ServeError, ServerServiceFactory};
+use crate::drive::{become_ready, serve_link};
+use crate::{Accepted, Done, Entry, Listener, ServerServiceFactory};
 use futures::task::Queue;
-use service_core::{Link, ServiceFactory};
-use std::alloc::Global;
+use service_core::ServiceFactory;
 use std::sync::Wait;
-
-// The service of a token on the first worker.
-pub(crate) fn make_service<W, L, F>(
-    rt: &W,
-    alloc: Global,
-    queue: &Queue,
-    factory: &F,
-    token: usize,
-) -> Result<
-    <F::Factory as ServiceFactory<L>>::Service,
-    ServeError<<F::Factory as ServiceFactory<L>>::InitError>,
->
-where
-    W: Wait,
-    L: Link,
-    F: ServerServiceFactory<L>,
-    ensures made { IfOk result (λ service. F.may_make factory.now token
-        × Stands F.Factory.Service.Service F.Factory.Service.Future.may_stand (F.may_serve factory.now token)
-        (F.may_leave factory.now token) (F.may_ready factory.now token) service) }
-    ensures startup { IfErr result (IsStartup (F.may_init factory.now)) }
-    ensures some_listener { (result ≡ Err ServeError.NoListener) → ⊥ }
-{
-    let services = factory.create(alloc, token)?;
-    let mut making = services.new_service(());
-    match drive(rt, queue, &mut making) {
-        Some(Ok(service)) => Ok(service),
-        Some(Err(error)) => Err(ServeError::Startup {
-            worker: 0,
-            token,
-            error,
-        }),
-        None => Err(ServeError::Memory),
-    }
-}
 
 // Serves what the listeners give, in the order of their tokens, and hands it to `done`. Returns how many of them ended,
 // which is all unless there was no room for an entry.
@@ -69,6 +34,7 @@ where
     ensures same_count { length listeners.new.items ≡ length listeners.old.items }
     ensures within { result ≤ vec_len listeners.new }
     ensures ended { (token : ℕ) → token < result → HasEnded Li.ended listeners.new.items token }
+    ensures others { (token : ℕ) → result ≤ token → HasEnded Li.ended listeners.new.items token → HasEnded Li.ended listeners.old.items token }
     ensures delivered { (entries : List (Entry Li.Link))
         × Adds Do.taken Do.count Do.served done.old done.new entries
         × Delivers Li.given Li.left Li.Link.identity (F.may_serve factory.now) (F.may_leave factory.now) listeners.old.items listeners.new.items entries }

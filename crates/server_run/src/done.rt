@@ -1,4 +1,4 @@
-ghost use Rattle.std.specs.Prelude.{◌≡◌, ◌+◌, ◌^◌, ◌<◌, ◌≤◌, ℕ, List, [], ◌∷◌, Option, OnOk};
+ghost use Rattle.std.specs.Prelude.{◌≡◌, ◌+◌, ◌^◌, ◌<◌, ◌≤◌, ℕ, List, [], ◌∷◌, Option, OnOk, OnErr};
 ghost use Rattle.server_run.specs.Done.{Adds, Keeps};
 ghost use Rattle.server_run.specs.declared.entry.Entry.{Entry};
 
@@ -19,9 +19,10 @@ pub trait Done<L> {
     // For how many more there is room.
     ghost spare: { Self → ℕ };
 
-    /// Makes room for `n` entries. It is refused only for want of memory.
+    /// Makes room for `n` entries. It is refused only for want of memory, and then there is as much room as before.
     fn make_room(&mut self, n: u64) -> Result<(), AllocError>
         ensures room { OnOk result (n ≤ spare self.new) }
+        ensures kept { OnErr result (spare self.new ≡ spare self.old) }
         ensures same { Keeps taken count served self.old self.new };
 
     /// Takes an entry, for which there is room.

@@ -5,17 +5,18 @@ ghost use Rattle.server_run.specs.Creating.{Finishes};
 ghost use Rattle.futures.specs.declared.task.Poll.TheVariants.{Ready as PollReady};
 
 use crate::Outcome;
+use crate::names::Names;
 use futures::Future;
 use futures::task::{Context, Doorbell, Poll, Queue};
 use service_core::{Ended, LinkHolder, Service};
-use std::alloc::AllocGlobal;
+use std::alloc::Global;
 use std::io;
-use std::random::RandomSource;
 use std::sync::Wait;
 
 // A queue whose one task is to be polled.
-pub(crate) fn queue_of_one<R: RandomSource + AllocGlobal>(rt: &R) -> io::Result<Queue> {
-    let queue = Queue::new(rt, Doorbell::parking())?;
+pub(crate) fn queue_of_one(alloc: Global) -> io::Result<Queue> {
+    let names = Names { alloc, number: 0 };
+    let queue = Queue::new(&names, Doorbell::parking())?;
     queue.add()?.schedule();
     Ok(queue)
 }

@@ -1,9 +1,8 @@
 //! What the server takes of the system.
-use std::alloc::AllocGlobal;
+use std::alloc::Alloc;
 use std::fs::Files;
 use std::io::Input;
 use std::net::Net;
-use std::random::RandomSource;
 use std::rt::Runtime;
 use std::sync::Wait;
 use std::thread::Threads;
@@ -12,11 +11,10 @@ use std::thread::Threads;
 pub trait Host: Runtime
     + Files<File: Send, Dir: Send>
     + Input<Reader: Send>
-    + AllocGlobal
+    + Alloc<A: Send>
     + Threads
     + Wait
     + Net<Stream: Send, Listener: Send>
-    + RandomSource
     + Send
     + Sync {}
 
@@ -25,11 +23,10 @@ where
     R: Runtime
         + Files<File: Send, Dir: Send>
         + Input<Reader: Send>
-        + AllocGlobal
+        + Alloc<A: Send>
         + Threads
         + Wait
         + Net<Stream: Send, Listener: Send>
-        + RandomSource
         + Send
         + Sync,
 {}

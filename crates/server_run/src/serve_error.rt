@@ -10,8 +10,11 @@ pub enum ServeError<I> {
     NoListener,
     /// The factory of this token refused its service on this worker.
     Startup {
+        /// The number of the worker, from 0.
         worker: usize,
+        /// The place of the listener in the list of listeners.
         token: usize,
+        /// What the factory answered.
         error: I,
     },
     /// Memory ran out.

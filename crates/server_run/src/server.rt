@@ -1,4 +1,4 @@
-ghost use Rattle.std.specs.Prelude.{◌≡◌, ◌↔◌, ◌≤◌, ℕ, List, [], IfOk, OnOk, OnErr, IfErr, IsErrOf, Err, vec_len};
+ghost use Rattle.std.specs.Prelude.{◌≡◌, ◌↔◌, ◌≤◌, ℕ, List, [], IfOk, OnOk, OnErr, IfErr, IsErrOf, Err, length, vec_len};
 ghost use Rattle.futures.specs.declared.task.Poll.TheVariants.{Ready as PollReady};
 ghost use Rattle.server_run.specs.Creating.{IsStartup};
 ghost use Rattle.server_run.specs.Done.{Adds, Keeps};
@@ -6,8 +6,9 @@ ghost use Rattle.server_run.specs.Delivery.{Delivers};
 ghost use Rattle.server_run.specs.Report.{Tells};
 ghost use Rattle.server_run.specs.declared.entry.Entry.{Entry};
 
-use crate::accept::{drain, make_service};
+use crate::accept::drain;
 use crate::drive::queue_of_one;
+use crate::making::make_service;
 use crate::{
     Done, Host, Listener, ListenerState, Report, ServeError, ServerBuilder, ServerServiceFactory,
 };
@@ -47,7 +48,9 @@ impl<F> Server<F> {
         requires few { vec_len listeners.old ≤ 1 }
         requires never_errs { (token : ℕ) (e : F.Factory.Error) → F.may_ready self.factory token (PollReady (Err e)) → ⊥ }
         ensures no_listener { IsErrOf result ServeError.NoListener ↔ (listeners.old.items ≡ []) }
-        ensures startup { IfErr result (IsStartup (F.may_init self.factory)) }
+        ensures startup { IfErr result (IsStartup 1 (vec_len listeners.old) (F.may_init self.factory)) }
+
+        ensures same_count { length listeners.new.items ≡ length listeners.old.items }
 
         // An error comes before the first accept.
         ensures before { OnErr result ((listeners.new.items ≡ listeners.old.items) × Keeps Do.taken Do.count Do.served done.old done.new) }
@@ -55,17 +58,17 @@ impl<F> Server<F> {
         ensures delivered { OnOk result ((entries : List (Entry Li.Link))
             × Adds Do.taken Do.count Do.served done.old done.new entries
             × Delivers Li.given Li.left Li.Link.identity (F.may_serve self.factory) (F.may_leave self.factory) listeners.old.items listeners.new.items entries) }
-        ensures told { IfOk result (λ report. Tells Li.ended listeners.new.items report) }
+        ensures told { IfOk result (λ report. Tells Li.ended listeners.old.items listeners.new.items report) }
         ensures made { OnOk result (F.may_make self.factory 0) }
     {
         if listeners.is_empty() {
             return Err(ServeError::NoListener);
         }
         let states = vec![in alloc; ListenerState::Open; listeners.len()]?;
-        let Ok(queue) = queue_of_one(rt) else {
+        let Ok(queue) = queue_of_one(alloc) else {
             return Err(ServeError::Memory);
         };
-        let service = make_service(rt, alloc, &queue, &self.factory, 0)?;
+        let service = make_service(rt, alloc, &queue, &self.factory, 0, 0)?;
         done.make_room(1)?;
         let ended = drain(rt, &queue, &self.factory, &service, listeners, done);
         Ok(Report::of(states, ended))

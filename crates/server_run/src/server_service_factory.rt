@@ -34,7 +34,8 @@ pub trait ServerServiceFactory<L: Link>: Drop {
     // Holds wherever a service of the token is made.
     ghost may_make: { Self → ℕ → Type 0 };
 
-    /// The factory of the token's services. It is refused only for want of memory. The factory may still refuse a service.
+    /// The factory of the services of one listener's connections, by the listener's token: its place in the list of
+    /// listeners. It is refused only for want of memory. The factory that it answers may still refuse to make a service.
     fn create(&self, alloc: Global, token: usize) -> Result<Self::Factory, AllocError>
         ensures { IfOk result (Creates Self.Factory.ServiceFactory Self.Factory.Service.Future.may_stand
             (may_serve self.now token) (may_leave self.now token) (may_ready self.now token)

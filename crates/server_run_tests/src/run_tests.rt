@@ -102,11 +102,11 @@ fn two_links_among_others(alloc: Global) -> Result<MemoryListener, AllocError> {
 // Whether the server serves what the listener gives, and ends as drained.
 fn serves<H: Host>(
     rt: &H,
+    alloc: Global,
     server: Server<EndAtOnce>,
     listener: MemoryListener,
     done: &mut KeepAll<MemoryLink>,
 ) -> Result<bool, AllocError> {
-    let alloc = rt.alloc();
     let mut listeners = Vec::new(alloc);
     listeners.push(listener)?;
     is_drained(server.serve(rt, alloc, &mut listeners, done))
@@ -118,7 +118,7 @@ fn each_connection_is_handed_on_in_order(rt: HostRuntime) -> Result<(), Fail> {
     let listener = two_links_among_others(alloc)?;
     let mut done = KeepAll::new(alloc);
     let server = server_run::new(alloc)?.run(EndAtOnce);
-    assert!(rt; serves(&rt, server, listener, &mut done)?);
+    assert!(rt; serves(&rt, alloc, server, listener, &mut done)?);
     let first = Told {
         serial: 0,
         token: 0,
@@ -140,11 +140,12 @@ fn each_connection_is_handed_on_in_order(rt: HostRuntime) -> Result<(), Fail> {
 // Whether a server without a listener is refused for that.
 fn is_refused<H: Host>(
     rt: &H,
+    alloc: Global,
     server: Server<EndAtOnce>,
     done: &mut KeepAll<MemoryLink>,
 ) -> Result<bool, AllocError> {
-    let mut listeners: Vec<MemoryListener> = Vec::new(rt.alloc());
-    match server.serve(rt, rt.alloc(), &mut listeners, done) {
+    let mut listeners: Vec<MemoryListener> = Vec::new(alloc);
+    match server.serve(rt, alloc, &mut listeners, done) {
         Err(ServeError::Memory) => Err(AllocError),
         Err(ServeError::NoListener) => Ok(true),
         _ => Ok(false),
@@ -156,7 +157,7 @@ fn without_a_listener_nothing_is_served(rt: HostRuntime) -> Result<(), Fail> {
     let alloc = rt.alloc();
     let mut done = KeepAll::new(alloc);
     let server = ServerBuilder::new(alloc)?.run(EndAtOnce);
-    assert!(rt; is_refused(&rt, server, &mut done)?);
+    assert!(rt; is_refused(&rt, alloc, server, &mut done)?);
     assert!(rt; done.entries().is_empty());
     Ok(())
 }
@@ -167,7 +168,7 @@ fn a_server_without_a_connection_is_drained(rt: HostRuntime) -> Result<(), Fail>
     let listener = MemoryListener::new(alloc, Vec::new(alloc));
     let mut done = KeepAll::new(alloc);
     let server = Server::build(alloc)?.run(EndAtOnce);
-    assert!(rt; serves(&rt, server, listener, &mut done)?);
+    assert!(rt; serves(&rt, alloc, server, listener, &mut done)?);
     assert!(rt; done.entries().is_empty());
     Ok(())
 }

@@ -2,7 +2,7 @@ use Rattle.std.proofs.Common.{◌≡◌, ◌≤◌, ◌+◌, ◌-◌, sym, ap, s
 use Rattle.std.proofs.lemmas.Option.{slice_get_past}
 use Rattle.server_run.specs.declared.read_step.ReadStep.TheVariants.{Give, NotYet, Fail, Never}
 use Rattle.std.proofs.Math.Nat.{le_trans}
-use Rattle.server_run.specs.Steps.{count_before, given_by, is_read_fail}
+use Rattle.server_run.specs.Steps.{given_by, is_read_fail}
 use Rattle.server_run.proofs.Fails.{counted_more, counted_onward}
 use Rattle.server_run.proofs.Steps.{goes_by, reads_more, reads_none, reads_some, step_read}
 use Rattle.server_run.proofs.memory_link.MemoryLinkLink.poll_read.Goals as goal

@@ -1,4 +1,4 @@
-use Rattle.std.proofs.Common.{◌≡◌, ◌<◌, ◌≤◌, ℕ, length, vec_len, slice_get, Some}
+use Rattle.std.proofs.Common.{◌≡◌, ◌<◌, ◌≤◌, ℕ, vec_len, slice_get, Some}
 use Rattle.server_run.specs.declared.report.ListenerState.TheVariants.{Ended, Open}
 use Rattle.server_run.proofs.report.Report.of.Given as goal
 
