@@ -51,6 +51,11 @@ contains_view_in words q h = contains_view words q ∙ grind (arith, nat_tests)
 pub contains_view_out : (words : List ℕ) (q : ℕ) → 512 ≤ q → set.contains (view_of words) q ≡ false
 contains_view_out words q h = contains_view words q ∙ grind (arith, nat_tests)
 
+pub member_below : (words : List ℕ) (q : ℕ) → set.contains (view_of words) q ≡ true → q < 512
+member_below words q there =
+    let both : (nat_lt q 512 && is_set words q) ≡ true = sym (contains_view words q) ∙ there in
+    grind (arith, nat_tests)
+
 pub contains-with_mark : (s : Numbers) (w : ℕ) (mark : Bool) (q : ℕ) → set.contains (with_mark s w mark) q ≡ cond (nat_eq q w) mark (set.contains s q)
 contains-with_mark s w true q = contains-insert nat_cmp_total s w q ∙ ap (λ b. b || set.contains s q) (unsigned_tied q w) ∙ grind (arith, nat_tests)
 contains-with_mark s w false q = contains-remove nat_cmp_total s w q ∙ ap (λ b. not b && set.contains s q) (unsigned_tied q w) ∙ grind (arith, nat_tests)

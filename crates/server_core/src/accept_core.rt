@@ -282,7 +282,7 @@ impl AcceptCore {
 
 impl AcceptCore {
     ghost use Rattle.std.specs.Prelude.{IfSome};
-    ghost use Rattle.server_core.specs.Core.{allowed, picked, step};
+    ghost use Rattle.server_core.specs.Core.{IsKept, allowed, picked, step};
 
     /// A core over `workers` workers, which are all in order and free, and `listeners` listeners.
     pub fn new(workers: usize, listeners: usize) -> Self
@@ -290,7 +290,8 @@ impl AcceptCore {
         requires most_workers { workers ≤ 512 }
         requires some_listeners { 1 ≤ listeners }
         requires most_listeners { listeners ≤ 64 }
-        ensures { result ≡ fresh workers listeners }
+        ensures value { result ≡ fresh workers listeners }
+        ensures kept { IsKept result }
     {
         AcceptCore {
             ended: none_ended(listeners),
@@ -325,13 +326,16 @@ impl AcceptCore {
         }
     }
 
-    /// Carries an event out, which must be allowed. The workers and the listeners stay as many.
+    /// Carries an event out, which must be allowed. The workers and the listeners stay as many, and each connection that was
+    /// given is still in one place.
     pub fn step(&mut self, event: Event)
         requires { allowed self.old event ≡ true }
         ensures value { self.new ≡ step self.old event }
         ensures workers { length self.new.out ≡ length self.old.out }
         ensures listeners { length self.new.ended ≡ length self.old.ended }
+        ensures kept { IsKept self.new }
     {
+        let _given = self.given;
         self.carry_out(event);
     }
 

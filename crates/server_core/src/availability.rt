@@ -1,5 +1,5 @@
 //! Which workers are marked.
-ghost use Rattle.std.specs.Prelude.{◌≡◌, ◌≢◌, ◌==◌, ◌↔◌, ◌≤◌, ◌<◌, ◌/◌, ◌%◌, ◌^◌, ℕ, All, MatchOption, slice_index, cond, false};
+ghost use Rattle.std.specs.Prelude.{◌≡◌, ◌≢◌, ◌==◌, ◌↔◌, ◌≤◌, ◌<◌, ◌/◌, ◌%◌, ◌^◌, ℕ, All, MatchOption, slice_index, cond, true, false};
 ghost use Rattle.std.specs.Int.{bit_at};
 ghost use Rattle.std.specs.FinSet as set;
 ghost use Rattle.server_core.specs.Numbers.{with_mark, any_word, IsFirstBit, IsFirstFrom, HasNoneFrom};
@@ -105,10 +105,12 @@ impl Availability {
         any_word(&self.words)
     }
 
-    /// Whether the worker `idx` is marked, as `actix-server`'s `Availability::get_available`.
+    /// Whether the worker `idx` is marked, as `actix-server`'s `Availability::get_available`. No worker from `MAX_WORKERS` on
+    /// is.
     pub fn get_available(&self, idx: usize) -> bool
         requires { idx < 512 }
-        ensures { result ≡ set.contains self.now idx }
+        ensures value { result ≡ set.contains self.now idx }
+        ensures below { (w : ℕ) → set.contains self.now w ≡ true → w < 512 }
     {
         let (group, place) = Self::offset(idx);
         has_bit(self.words[group], place)

@@ -2,7 +2,7 @@
 ghost use Rattle.std.specs.Prelude.{◌≡◌, ◌≤◌, ◌<◌, ◌++◌, [], ◌∷◌, ℕ, Bool, true, false, List, length, Some, is_some};
 ghost use Rattle.std.specs.List.{list_any};
 ghost use Rattle.std.specs.FinSet as set;
-ghost use Rattle.server_core.specs.Core.{Core, IsKept, allowed, first_free, fresh, picked};
+ghost use Rattle.server_core.specs.Core.{Core, IsKept, allowed, first_free, fresh, picked, step};
 ghost use Rattle.server_core.specs.Ledger.{Ledger, LeadsTo, IsLedgerOf, Moves, AllGoOn, AtMostOneMoves};
 ghost use Rattle.server_core.specs.Runs.{AllAllowed, TakesTurn, after_all, after_any, is_resume};
 ghost use Rattle.server_core.specs.declared.command.Command.TheVariants.{Pause, Stop};
@@ -18,7 +18,8 @@ pub fn any_events(workers: usize, listeners: usize, events: &[Event]) -> AcceptC
     requires most_workers { workers ≤ 512 }
     requires some_listeners { 1 ≤ listeners }
     requires most_listeners { listeners ≤ 64 }
-    ensures { result ≡ after_any (fresh workers listeners) events.now }
+    ensures value { result ≡ after_any (fresh workers listeners) events.now }
+    ensures kept { IsKept result }
 {
     let mut core = AcceptCore::new(workers, listeners);
     for event in events {
@@ -29,10 +30,12 @@ pub fn any_events(workers: usize, listeners: usize, events: &[Event]) -> AcceptC
     core
 }
 
-/// Over every list of allowed events each connection that was given is done, out at one worker, or the one that waits;
-/// the free workers are in order, no worker stands there twice, and nothing waits after a stop.
+/// Each connection that was given is done, out at one worker, or the one that waits; the free workers are in order, no
+/// worker stands there twice, and nothing waits after a stop. Every allowed event keeps this, so it stands over every list
+/// of them.
 pub fn balance_is_kept()
-    ensures { (workers listeners : ℕ) (events : List Event) → workers ≤ 512 → AllAllowed (fresh workers listeners) events
+    ensures step { (core : Core) (event : Event) → IsKept core → allowed core event ≡ true → IsKept (step core event) }
+    ensures all { (workers listeners : ℕ) (events : List Event) → workers ≤ 512 → AllAllowed (fresh workers listeners) events
         → IsKept (after_all (fresh workers listeners) events) }
 {}
 
