@@ -1,0 +1,57 @@
+ghost use Rattle.std.specs.Prelude.{◌≡◌, Ok, IfOk};
+ghost use Rattle.futures.specs.declared.task.Poll.TheVariants.{Ready as PollReady};
+ghost use Rattle.service_core.specs.Meaning.{GivesOnly};
+ghost use Rattle.example_serve.specs.Greeting.{greeting, Greets};
+
+use crate::no_greeting::NoGreeting;
+use futures::Future;
+use futures::task::{Context, Poll};
+use http1_plain::{Request, Response};
+use service_core::{Octets, Ready, Service, err, ok};
+use std::alloc::{AllocError, Global};
+
+/// The handler: it greets each request by its target.
+#[derive(Clone, Copy)]
+pub struct Greeter {
+    /// Where its responses take their memory.
+    pub alloc: Global,
+}
+
+impl Greeter {
+    fn greeting(&self, target: &[u8]) -> Result<Response, AllocError>
+        ensures { IfOk result (λ response. response ≡ greeting target.now) }
+    {
+        let mut body = Octets::of(self.alloc, b"Hello from ")?;
+        body.push_all(target)?;
+        let mut response = Response::new(self.alloc, 200);
+        response.set_body(body);
+        Ok(response)
+    }
+}
+
+impl Service<Request> for Greeter {
+    type Response = Response;
+
+    type Error = NoGreeting;
+
+    type Future = Ready<Result<Response, NoGreeting>>;
+
+    ghost may = { λ _ request result. Greets request result };
+
+    ghost may_ready = { λ _ answer. answer ≡ PollReady (Ok tt) };
+
+    ghost may_begin = { λ _ request future. GivesOnly ⟦<Ready<Result<Response, NoGreeting>> as Future>⟧ future (Greets request) };
+
+    ghost begun_gives = { λ _ _ _ begun. begun };
+
+    fn poll_ready(&self, _cx: &mut Context<'_>) -> Poll<Result<(), NoGreeting>> {
+        Poll::Ready(Ok(()))
+    }
+
+    fn call(&self, request: Request) -> Ready<Result<Response, NoGreeting>> {
+        match self.greeting(request.head.target.as_bytes()) {
+            Ok(response) => ok(response),
+            Err(_) => err(NoGreeting),
+        }
+    }
+}
