@@ -6,14 +6,14 @@ use crate::policies::POLICIES;
 use crate::requests::{Asked, LONG_NAMES, REQUESTS, append};
 use crate::steps::{ByRule, Step, built, plain};
 use crate::tally::{Outcome, Place, Tally};
-use cors_answer::{CorsFault, CorsInitError, CorsMiddleware};
+use cors_answer::{Cors, CorsFault, CorsInitError, CorsMiddleware};
 use cors_plain::{
     Head, Header, Policy, Response as Plain, Verdict, answer, is_preflight, verdict_on,
 };
 use futures::task::Poll;
 use futures::test::MockTask;
 use http::method::Method;
-use http1_plain::{HeaderList, HttpVersion, Response, write_response};
+use http1_plain::{HeaderList, HttpVersion, Request, Response, write_response};
 use service_core::{Octets, Service, Transform};
 use std::alloc::{AllocError, Global};
 use std::test::Fail;
@@ -24,20 +24,51 @@ fn written(alloc: Global, response: &Response) -> Result<Octets, AllocError> {
     Ok(out)
 }
 
+type Middleware = CorsMiddleware<Giving, ByRule>;
+
+/// What a future of the middleware gives.
+type Answer = Result<Response, CorsFault>;
+
+fn outcome(alloc: Global, is_error: bool, response: &Response) -> Result<Outcome, AllocError> {
+    Ok((is_error, written(alloc, response)?))
+}
+
+fn outcome_of_fault(alloc: Global, fault: &CorsFault) -> Result<Outcome, AllocError> {
+    match fault {
+        CorsFault::Answered(response) => outcome(alloc, true, response),
+        CorsFault::Memory => Err(AllocError),
+    }
+}
+
+fn outcome_of_answer(alloc: Global, answer: &Answer) -> Result<Outcome, AllocError> {
+    match answer {
+        Ok(response) => outcome(alloc, false, response),
+        Err(fault) => outcome_of_fault(alloc, fault),
+    }
+}
+
+fn outcome_of(alloc: Global, polled: &Poll<Answer>) -> Result<Outcome, AllocError> {
+    match polled {
+        Poll::Ready(answer) => outcome_of_answer(alloc, answer),
+        Poll::Pending => Ok((true, Octets::of(alloc, b"pending")?)),
+    }
+}
+
+// What the middleware's future gives at its first poll.
+fn polled(task: &MockTask, service: &Middleware, request: Request) -> Poll<Answer> {
+    let mut future = service.call(request);
+    task.poll(&mut future)
+}
+
 // What the middleware answers.
 fn asked(
     task: &MockTask,
     alloc: Global,
-    service: &CorsMiddleware<Giving, ByRule>,
+    service: &Middleware,
     asked: Asked,
 ) -> Result<Outcome, AllocError> {
-    let mut future = service.call(asked.request(alloc)?);
-    match task.poll(&mut future) {
-        Poll::Ready(Ok(response)) => Ok((false, written(alloc, &response)?)),
-        Poll::Ready(Err(CorsFault::Answered(response))) => Ok((true, written(alloc, &response)?)),
-        Poll::Ready(Err(CorsFault::Memory)) => Err(AllocError),
-        Poll::Pending => Ok((true, Octets::of(alloc, b"pending")?)),
-    }
+    let request = asked.request(alloc)?;
+    outcome_of(alloc, &polled(task, service, request))
 }
 
 fn header_list(alloc: Global, pairs: &[Header]) -> Result<HeaderList, AllocError> {
@@ -108,7 +139,7 @@ struct Site<'a> {
 /// A service under a policy, and the plain policy.
 #[derive(Drop)]
 struct Pair {
-    service: CorsMiddleware<Giving, ByRule>,
+    service: Middleware,
     policy: Policy,
     reply: Reply,
 }
@@ -130,6 +161,18 @@ fn compare_with(
     Ok(())
 }
 
+// What the plain program answers to a request with the head, which is counted.
+fn counted(
+    alloc: Global,
+    pair: &Pair,
+    head: &Head,
+    tally: &mut Tally,
+) -> Result<Outcome, AllocError> {
+    let verdict = verdict_on(alloc, &pair.policy, head)?;
+    tally.count_pair(&verdict, pair.policy.preflight && is_preflight(head));
+    defined(alloc, &pair.policy, head, &verdict, pair.reply)
+}
+
 // Asks both, and counts the answer.
 fn compare(
     site: &Site,
@@ -138,12 +181,32 @@ fn compare(
     place: Place,
     tally: &mut Tally,
 ) -> Result<(), AllocError> {
-    let alloc = site.alloc;
-    let head = request.head(alloc)?;
-    let verdict = verdict_on(alloc, &pair.policy, &head)?;
-    tally.count_pair(&verdict, pair.policy.preflight && is_preflight(&head));
-    let want = defined(alloc, &pair.policy, &head, &verdict, pair.reply)?;
+    let head = request.head(site.alloc)?;
+    let want = counted(site.alloc, pair, &head, tally)?;
     compare_with(site, pair, request, place, &want, tally)
+}
+
+// The service under the policy.
+fn made(cors: &Cors<ByRule>, inner: Giving) -> Result<Middleware, CorsInitError> {
+    cors.new_transform(inner).into_inner()
+}
+
+// Nothing where the policy is refused.
+fn refused(error: &CorsInitError) -> Result<Option<Middleware>, AllocError> {
+    match error {
+        CorsInitError::Config(_) => Ok(None),
+        CorsInitError::Memory => Err(AllocError),
+    }
+}
+
+// The service, or nothing where the policy is refused.
+fn unless_refused(
+    made: Result<Middleware, CorsInitError>,
+) -> Result<Option<Middleware>, AllocError> {
+    match made {
+        Ok(service) => Ok(Some(service)),
+        Err(error) => refused(&error),
+    }
 }
 
 // The service under the policy, or nothing where the policy is refused.
@@ -151,13 +214,9 @@ fn service_of(
     alloc: Global,
     steps: &[Step],
     reply: Reply,
-) -> Result<Option<CorsMiddleware<Giving, ByRule>>, AllocError> {
+) -> Result<Option<Middleware>, AllocError> {
     let cors = built(alloc, steps)?;
-    match cors.new_transform(Giving { alloc, reply }).into_inner() {
-        Ok(service) => Ok(Some(service)),
-        Err(CorsInitError::Config(_)) => Ok(None),
-        Err(CorsInitError::Memory) => Err(AllocError),
-    }
+    unless_refused(made(&cors, Giving { alloc, reply }))
 }
 
 // Both under the policy, or nothing where the policy is refused.
@@ -185,7 +244,35 @@ fn compare_all(
     Ok(())
 }
 
-// Each reply under the policy with the number. A policy that is refused is another answer behind those of the requests.
+// Asks both with each request. A policy that is refused is another answer behind those of the requests.
+fn compare_pair(
+    site: &Site,
+    pair: &Option<Pair>,
+    at: (usize, usize),
+    tally: &mut Tally,
+) -> Result<(), AllocError> {
+    match pair {
+        Some(pair) => compare_all(site, pair, at, tally),
+        None => {
+            tally.note_other((at.0, at.1, site.requests.len()));
+            Ok(())
+        }
+    }
+}
+
+// The reply under the policy with each request.
+fn compare_reply(
+    site: &Site,
+    steps: &[Step],
+    reply: Reply,
+    at: (usize, usize),
+    tally: &mut Tally,
+) -> Result<(), AllocError> {
+    let pair = pair_of(site.alloc, steps, reply)?;
+    compare_pair(site, &pair, at, tally)
+}
+
+// Each reply under the policy with the number.
 fn compare_policy(
     site: &Site,
     policy: usize,
@@ -193,10 +280,7 @@ fn compare_policy(
     tally: &mut Tally,
 ) -> Result<(), AllocError> {
     for (number, reply) in site.replies.iter().enumerate() {
-        match pair_of(site.alloc, steps, *reply)? {
-            Some(pair) => compare_all(site, &pair, (policy, number), tally)?,
-            None => tally.note_other((policy, number, site.requests.len())),
-        }
+        compare_reply(site, steps, *reply, (policy, number), tally)?;
     }
     Ok(())
 }
@@ -210,9 +294,31 @@ fn table(site: &Site) -> Result<Tally, AllocError> {
     Ok(tally)
 }
 
-// Whether the table has these counts and this digest.
-fn has_tally(site: &Site, expected: &Tally) -> Result<bool, AllocError> {
-    Ok(table(site)? == *expected)
+// Whether the table of these requests has these counts and this digest.
+fn has_tally(
+    task: &MockTask,
+    alloc: Global,
+    replies: &[Reply],
+    requests: &[Asked],
+    expected: &Tally,
+) -> Result<bool, AllocError> {
+    let site = Site {
+        task,
+        alloc,
+        replies,
+        requests,
+    };
+    Ok(table(&site)? == *expected)
+}
+
+// Whether the table of all requests has these counts and this digest.
+fn has_whole_tally(
+    task: &MockTask,
+    alloc: Global,
+    replies: &[Reply],
+    expected: &Tally,
+) -> Result<bool, AllocError> {
+    has_tally(task, alloc, replies, &REQUESTS, expected)
 }
 
 // How often each kind of answer comes, and the digest of all answers. Both were computed from the table alone, by a program
@@ -250,28 +356,34 @@ const EXPECTED_OF_LONG_NAMES: Tally = Tally {
     other_refusals: 0,
 };
 
+// Whether the table has the expected counts and digest.
+fn is_as_expected(task: &MockTask, alloc: Global) -> Result<bool, AllocError> {
+    has_whole_tally(task, alloc, &REPLIES, &EXPECTED)
+}
+
 #[test]
 fn the_middleware_answers_each_pair_by_the_definition(rt: HostRuntime) -> Result<(), Fail> {
-    let site = Site {
-        task: &MockTask::new(&rt)?,
-        alloc: rt.alloc(),
-        replies: &REPLIES,
-        requests: &REQUESTS,
-    };
-    assert!(rt; has_tally(&site, &EXPECTED)?);
+    let task = MockTask::new(&rt)?;
+    assert!(rt; is_as_expected(&task, rt.alloc())?);
     Ok(())
+}
+
+// Whether the table of long names has the expected counts and digest.
+fn are_long_names_as_expected(task: &MockTask, alloc: Global) -> Result<bool, AllocError> {
+    has_tally(
+        task,
+        alloc,
+        &REPLIES[..1],
+        &LONG_NAMES,
+        &EXPECTED_OF_LONG_NAMES,
+    )
 }
 
 #[test]
 fn names_at_the_limit_of_their_length_are_answered_by_the_definition(
     rt: HostRuntime,
 ) -> Result<(), Fail> {
-    let site = Site {
-        task: &MockTask::new(&rt)?,
-        alloc: rt.alloc(),
-        replies: &REPLIES[..1],
-        requests: &LONG_NAMES,
-    };
-    assert!(rt; has_tally(&site, &EXPECTED_OF_LONG_NAMES)?);
+    let task = MockTask::new(&rt)?;
+    assert!(rt; are_long_names_as_expected(&task, rt.alloc())?);
     Ok(())
 }

@@ -6,7 +6,7 @@ use cors_plain::Response as Plain;
 use futures::Future;
 use futures::task::{Context, Poll};
 use http1_plain::{ErrorResponse, Request, Response};
-use service_core::{Octets, Ready, Service, err, ok};
+use service_core::{Octets, Ready, Service, ready};
 use std::alloc::{AllocError, Global};
 
 /// What the service gives to every request.
@@ -68,6 +68,14 @@ impl Reply {
         Ok(response)
     }
 
+    // What the service gives.
+    fn given(self, alloc: Global) -> Result<Response, Failed> {
+        match self.response(alloc) {
+            Ok(response) => as_given(self.is_error, response),
+            Err(_) => Err(Failed { response: None }),
+        }
+    }
+
     /// The response as the plain program is given it.
     pub(crate) fn plain(self, alloc: Global) -> Result<Plain, AllocError> {
         let headers = pairs(alloc, self.fields)?;
@@ -94,6 +102,17 @@ impl ErrorResponse for Failed {
             Some(response) => Ok(response),
             None => Err(AllocError),
         }
+    }
+}
+
+// The response, or an error with it.
+fn as_given(is_error: bool, response: Response) -> Result<Response, Failed> {
+    if is_error {
+        Err(Failed {
+            response: Some(response),
+        })
+    } else {
+        Ok(response)
     }
 }
 
@@ -124,17 +143,6 @@ impl Service<Request> for Giving {
     }
 
     fn call(&self, _req: Request) -> Ready<Result<Response, Failed>> {
-        match self.reply.response(self.alloc) {
-            Err(_) => err(Failed { response: None }),
-            Ok(response) => {
-                if self.reply.is_error {
-                    err(Failed {
-                        response: Some(response),
-                    })
-                } else {
-                    ok(response)
-                }
-            }
-        }
+        ready(self.reply.given(self.alloc))
     }
 }

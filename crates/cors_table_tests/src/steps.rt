@@ -60,20 +60,41 @@ fn flagged(cors: Cors<ByRule>, step: Step) -> Cors<ByRule> {
     }
 }
 
+// The builder after the call, where it allows everything, or sets a flag or a number.
+fn opened(cors: Cors<ByRule>, step: Step) -> Cors<ByRule> {
+    match step {
+        Step::AnyOrigin => cors.allow_any_origin(),
+        Step::AnyHeader => cors.allow_any_header(),
+        Step::ExposeAny => cors.expose_any_header(),
+        _ => flagged(cors, step),
+    }
+}
+
+// The builder after the call, where it adds no text to the origins or the methods.
+fn with_headers(cors: Cors<ByRule>, step: Step) -> Result<Cors<ByRule>, AllocError> {
+    match step {
+        Step::AlsoBy(rule) => cors.allowed_origin_fn(ByRule { rule }),
+        Step::Header(text) => cors.allowed_header(text),
+        Step::Expose(text) => cors.expose_headers(&[text]),
+        _ => Ok(opened(cors, step)),
+    }
+}
+
+// The builder after the call, where it goes on with what was allowed before.
+fn continued(cors: Cors<ByRule>, step: Step) -> Result<Cors<ByRule>, AllocError> {
+    match step {
+        Step::Origin(text) => cors.allowed_origin(text),
+        Step::AnyMethod => cors.allow_any_method(),
+        Step::Method(text) => cors.allowed_methods(&[text]),
+        _ => with_headers(cors, step),
+    }
+}
+
 // The builder after the call.
 fn called(alloc: Global, cors: Cors<ByRule>, step: Step) -> Result<Cors<ByRule>, AllocError> {
     match step {
         Step::Permissive => Cors::permissive(alloc),
-        Step::AnyOrigin => Ok(cors.allow_any_origin()),
-        Step::Origin(text) => cors.allowed_origin(text),
-        Step::AlsoBy(rule) => cors.allowed_origin_fn(ByRule { rule }),
-        Step::AnyMethod => cors.allow_any_method(),
-        Step::Method(text) => cors.allowed_methods(&[text]),
-        Step::AnyHeader => Ok(cors.allow_any_header()),
-        Step::Header(text) => cors.allowed_header(text),
-        Step::ExposeAny => Ok(cors.expose_any_header()),
-        Step::Expose(text) => cors.expose_headers(&[text]),
-        _ => Ok(flagged(cors, step)),
+        _ => continued(cors, step),
     }
 }
 

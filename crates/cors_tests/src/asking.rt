@@ -81,18 +81,65 @@ fn request(alloc: Global, asked: Asked) -> Result<Request, AllocError> {
     })
 }
 
-// The response of the service, or nothing where it gives none.
-fn response_by<G: OriginRule>(
+/// What a future of the middleware gives.
+type Answer = Result<Response, CorsFault>;
+
+// What the middleware's future gives at its first poll.
+fn polled<G: OriginRule>(
     task: &MockTask,
     service: &CorsMiddleware<Inner, G>,
     request: Request,
-) -> Result<Option<Response>, AllocError> {
+) -> Poll<Answer> {
     let mut future = service.call(request);
-    match task.poll(&mut future) {
-        Poll::Ready(Ok(response)) => Ok(Some(response)),
-        Poll::Ready(Err(CorsFault::Memory)) => Err(AllocError),
-        Poll::Ready(Err(CorsFault::Answered(_))) => Ok(None),
+    task.poll(&mut future)
+}
+
+fn no_response(fault: &CorsFault) -> Result<Option<Response>, AllocError> {
+    match fault {
+        CorsFault::Answered(_) => Ok(None),
+        CorsFault::Memory => Err(AllocError),
+    }
+}
+
+fn response_of_answer(answer: Answer) -> Result<Option<Response>, AllocError> {
+    match answer {
+        Ok(response) => Ok(Some(response)),
+        Err(fault) => no_response(&fault),
+    }
+}
+
+// The response, or nothing where there is none.
+fn response_of(polled: Poll<Answer>) -> Result<Option<Response>, AllocError> {
+    match polled {
+        Poll::Ready(answer) => response_of_answer(answer),
         Poll::Pending => Ok(None),
+    }
+}
+
+/// The service under the policy.
+pub(crate) fn service_under<G: OriginRule>(
+    cors: &Cors<G>,
+    inner: Inner,
+) -> Result<CorsMiddleware<Inner, G>, CorsInitError> {
+    cors.new_transform(inner).into_inner()
+}
+
+fn no_service(error: &CorsInitError) -> Result<Option<Response>, AllocError> {
+    match error {
+        CorsInitError::Config(_) => Ok(None),
+        CorsInitError::Memory => Err(AllocError),
+    }
+}
+
+// The response of the service, or nothing where there is none.
+fn response_by<G: OriginRule>(
+    task: &MockTask,
+    service: &Result<CorsMiddleware<Inner, G>, CorsInitError>,
+    request: Request,
+) -> Result<Option<Response>, AllocError> {
+    match service {
+        Ok(service) => response_of(polled(task, service, request)),
+        Err(error) => no_service(error),
     }
 }
 
@@ -103,12 +150,8 @@ pub(crate) fn response_under<G: OriginRule>(
     cors: &Cors<G>,
     asked: Asked,
 ) -> Result<Option<Response>, AllocError> {
-    let alloc = inner.alloc;
-    match cors.new_transform(inner).into_inner() {
-        Ok(service) => response_by(task, &service, request(alloc, asked)?),
-        Err(CorsInitError::Config(_)) => Ok(None),
-        Err(CorsInitError::Memory) => Err(AllocError),
-    }
+    let request = request(inner.alloc, asked)?;
+    response_by(task, &service_under(cors, inner), request)
 }
 
 fn written(alloc: Global, response: &Response) -> Result<Octets, AllocError> {
@@ -142,27 +185,44 @@ fn text(alloc: Global, parts: &[&str]) -> Result<Octets, AllocError> {
     Ok(out)
 }
 
+fn is_text(alloc: Global, response: &Response, parts: &[&str]) -> Result<bool, AllocError> {
+    Ok(written(alloc, response)? == text(alloc, parts)?)
+}
+
+fn is_some_text(
+    alloc: Global,
+    response: &Option<Response>,
+    parts: &[&str],
+) -> Result<bool, AllocError> {
+    match response {
+        Some(response) => is_text(alloc, response, parts),
+        None => Ok(false),
+    }
+}
+
 /// Whether the answer to a request is these parts.
-pub(crate) fn is_answered<R, G>(
-    rt: &R,
+pub(crate) fn is_answered<G: OriginRule>(
+    task: &MockTask,
+    alloc: Global,
     cors: &Cors<G>,
     asked: Asked,
     parts: &[&str],
-) -> Result<bool, Fail>
-where
-    R: RandomSource + AllocGlobal,
-    G: OriginRule,
-{
-    let task = MockTask::new(rt)?;
-    let alloc = rt.alloc();
+) -> Result<bool, AllocError> {
     let inner = Inner {
         alloc,
         is_empty: false,
     };
-    let Some(response) = response_under(&task, inner, cors, asked)? else {
-        return Ok(false);
-    };
-    Ok(written(alloc, &response)? == text(alloc, parts)?)
+    is_some_text(alloc, &response_under(task, inner, cors, asked)?, parts)
+}
+
+fn are_parts(
+    task: &MockTask,
+    alloc: Global,
+    calls: &[Call],
+    asked: Asked,
+    parts: &[&str],
+) -> Result<bool, AllocError> {
+    is_answered(task, alloc, &built(alloc, calls)?, asked, parts)
 }
 
 /// Whether these parts answer a request under a policy without rules.
@@ -170,6 +230,6 @@ pub(crate) fn answers<R>(rt: &R, calls: &[Call], asked: Asked, parts: &[&str]) -
 where
     R: RandomSource + AllocGlobal,
 {
-    let cors = built(rt.alloc(), calls)?;
-    is_answered(rt, &cors, asked, parts)
+    let task = MockTask::new(rt)?;
+    Ok(are_parts(&task, rt.alloc(), calls, asked, parts)?)
 }

@@ -37,20 +37,41 @@ fn flagged<G: OriginRule>(cors: Cors<G>, call: Call) -> Cors<G> {
     }
 }
 
+// The builder after the call, where it allows everything, or sets a flag or a number.
+fn opened<G: OriginRule>(cors: Cors<G>, call: Call) -> Cors<G> {
+    match call {
+        Call::AnyOrigin => cors.allow_any_origin(),
+        Call::AnyHeader => cors.allow_any_header(),
+        Call::ExposeAny => cors.expose_any_header(),
+        _ => flagged(cors, call),
+    }
+}
+
+// The builder after the call, where it adds no text to the origins or the methods.
+fn with_headers<G: OriginRule>(cors: Cors<G>, call: Call) -> Result<Cors<G>, AllocError> {
+    match call {
+        Call::Header(text) => cors.allowed_header(text),
+        Call::Headers(texts) => cors.allowed_headers(texts),
+        Call::Expose(texts) => cors.expose_headers(texts),
+        _ => Ok(opened(cors, call)),
+    }
+}
+
+// The builder after the call, where it goes on with what was allowed before.
+fn continued<G: OriginRule>(cors: Cors<G>, call: Call) -> Result<Cors<G>, AllocError> {
+    match call {
+        Call::Origin(text) => cors.allowed_origin(text),
+        Call::AnyMethod => cors.allow_any_method(),
+        Call::Methods(texts) => cors.allowed_methods(texts),
+        _ => with_headers(cors, call),
+    }
+}
+
 // The builder after the call.
 fn called<G: OriginRule>(alloc: Global, cors: Cors<G>, call: Call) -> Result<Cors<G>, AllocError> {
     match call {
         Call::Permissive => Cors::permissive(alloc),
-        Call::AnyOrigin => Ok(cors.allow_any_origin()),
-        Call::Origin(text) => cors.allowed_origin(text),
-        Call::AnyMethod => cors.allow_any_method(),
-        Call::Methods(texts) => cors.allowed_methods(texts),
-        Call::AnyHeader => Ok(cors.allow_any_header()),
-        Call::Header(text) => cors.allowed_header(text),
-        Call::Headers(texts) => cors.allowed_headers(texts),
-        Call::ExposeAny => Ok(cors.expose_any_header()),
-        Call::Expose(texts) => cors.expose_headers(texts),
-        _ => Ok(flagged(cors, call)),
+        _ => continued(cors, call),
     }
 }
 

@@ -9,7 +9,7 @@ use cors_answer::Cors;
 use cors_policy::OriginRule;
 use futures::test::MockTask;
 use http::method::Method;
-use http1_plain::RequestHead;
+use http1_plain::{RequestHead, Response};
 use std::alloc::{AllocError, Global};
 use std::test::Fail;
 
@@ -36,11 +36,18 @@ fn everyone_after(alloc: Global, calls: &[Call]) -> Result<Cors<Always>, AllocEr
     after(alloc, everyone(alloc)?, calls)
 }
 
-// Whether the answer has the status.
-fn has_status(
+fn is_of_status(response: &Option<Response>, status: u16) -> bool {
+    match response {
+        Some(response) => response.status() == status,
+        None => false,
+    }
+}
+
+// Whether the answer under a policy has the status.
+fn gives_status(
     task: &MockTask,
     alloc: Global,
-    calls: &[Call],
+    cors: &Cors<Always>,
     row: (Method, u16),
 ) -> Result<bool, AllocError> {
     let fields = [
@@ -51,21 +58,39 @@ fn has_status(
         alloc,
         is_empty: true,
     };
-    let cors = everyone_after(alloc, calls)?;
-    match response_under(task, inner, &cors, (row.0, &fields))? {
-        Some(response) => Ok(response.status() == row.1),
-        None => Ok(false),
-    }
+    let response = response_under(task, inner, cors, (row.0, &fields))?;
+    Ok(is_of_status(&response, row.1))
+}
+
+// Whether the answer has the status.
+fn has_status(
+    task: &MockTask,
+    alloc: Global,
+    calls: &[Call],
+    row: (Method, u16),
+) -> Result<bool, AllocError> {
+    gives_status(task, alloc, &everyone_after(alloc, calls)?, row)
+}
+
+// Whether only a preflight is answered here.
+fn answers_preflights(task: &MockTask, alloc: Global) -> Result<bool, AllocError> {
+    let calls = [AnyMethod, AnyHeader];
+    Ok(
+        has_status(task, alloc, &calls, (Method::OPTIONS, 200))?
+            && has_status(task, alloc, &calls, (Method::GET, 204))?,
+    )
+}
+
+// Whether a preflight is handed on where that is disabled.
+fn hands_preflights_on(task: &MockTask, alloc: Global) -> Result<bool, AllocError> {
+    let calls = [AnyMethod, AnyHeader, NoPreflight];
+    has_status(task, alloc, &calls, (Method::OPTIONS, 204))
 }
 
 #[test]
 fn a_preflight_is_answered_here_unless_that_is_disabled(rt: HostRuntime) -> Result<(), Fail> {
-    let alloc = rt.alloc();
     let task = MockTask::new(&rt)?;
-    let calls = [AnyMethod, AnyHeader];
-    assert!(rt; has_status(&task, alloc, &calls, (Method::OPTIONS, 200))?);
-    assert!(rt; has_status(&task, alloc, &calls, (Method::GET, 204))?);
-    let calls = [AnyMethod, AnyHeader, NoPreflight];
-    assert!(rt; has_status(&task, alloc, &calls, (Method::OPTIONS, 204))?);
+    assert!(rt; answers_preflights(&task, rt.alloc())?);
+    assert!(rt; hands_preflights_on(&task, rt.alloc())?);
     Ok(())
 }

@@ -2,7 +2,7 @@
 ghost use Rattle.std.specs.Prelude.{nat_eq, codes};
 ghost use Rattle.std.specs.List.{ends_with};
 
-use crate::asking::{Asked, answers, head, is_answered, list_of};
+use crate::asking::{Asked, answers, head, is_answered, list_of, service_under};
 use crate::building::Call::{
     Age, AnyOrigin, Block, Credentials, Expose, ExposeAny, Headers, Methods, NoPreflight, NoVary,
     Origin, Permissive, Wildcard,
@@ -18,8 +18,8 @@ use futures::task::Poll;
 use futures::test::MockTask;
 use http::method::Method;
 use http_header::VARY;
-use http1_plain::{ErrorResponse, RequestHead, Response};
-use service_core::{NoMemory, Service, Transform};
+use http1_plain::{ErrorResponse, HeaderList, RequestHead, Response};
+use service_core::{NoMemory, Service};
 use std::alloc::{AllocError, AllocGlobal, Global};
 use std::random::RandomSource;
 use std::test::Fail;
@@ -61,6 +61,15 @@ fn grants(policy: &Policy<NoRule>, head: &RequestHead, origin: &[u8]) -> bool {
     policy.access_control_allow_origin(head) == Some(origin)
 }
 
+fn cors_says(
+    alloc: Global,
+    cors: &Cors<NoRule>,
+    asked: Asked,
+    checks: Checks,
+) -> Result<bool, AllocError> {
+    Ok(says(cors.policy(), &head(alloc, asked)?, checks))
+}
+
 // Whether a policy after the calls says so of the request.
 fn policy_says(
     alloc: Global,
@@ -68,8 +77,7 @@ fn policy_says(
     asked: Asked,
     checks: Checks,
 ) -> Result<bool, AllocError> {
-    let cors = built(alloc, calls)?;
-    Ok(says(cors.policy(), &head(alloc, asked)?, checks))
+    cors_says(alloc, &built(alloc, calls)?, asked, checks)
 }
 
 #[test]
@@ -121,13 +129,22 @@ fn rust_lang(alloc: Global) -> Result<Cors<RustLang>, AllocError> {
     after(alloc, rust_lang_origins(alloc)?, &MORE_ALLOWED)
 }
 
+fn rust_lang_gives(
+    task: &MockTask,
+    alloc: Global,
+    asked: Asked,
+    parts: &[&str],
+) -> Result<bool, AllocError> {
+    is_answered(task, alloc, &rust_lang(alloc)?, asked, parts)
+}
+
 // Whether these parts answer a request under that policy.
 fn rust_lang_answers<R>(rt: &R, asked: Asked, parts: &[&str]) -> Result<bool, Fail>
 where
     R: RandomSource + AllocGlobal,
 {
-    let cors = rust_lang(rt.alloc())?;
-    is_answered(rt, &cors, asked, parts)
+    let task = MockTask::new(rt)?;
+    Ok(rust_lang_gives(&task, rt.alloc(), asked, parts)?)
 }
 
 #[test]
@@ -161,22 +178,43 @@ fn no_rule_allows_an_origin(rt: HostRuntime) -> Result<(), Fail> {
     Ok(())
 }
 
+fn has_error(cors: &Cors<NoRule>, error: Option<ConfigError>) -> bool {
+    cors.error() == error
+}
+
 // Whether this is the error that a builder keeps after the calls.
 fn keeps(alloc: Global, calls: &[Call], error: Option<ConfigError>) -> Result<bool, AllocError> {
-    Ok(built(alloc, calls)?.error() == error)
+    Ok(has_error(&built(alloc, calls)?, error))
+}
+
+fn keeps_of_origin(
+    alloc: Global,
+    origin: &'static str,
+    error: Option<ConfigError>,
+) -> Result<bool, AllocError> {
+    keeps(alloc, &[Origin(origin)], error)
+}
+
+fn keeps_each_error(alloc: Global) -> Result<bool, AllocError> {
+    let wildcard = Some(ConfigError::WildcardOrigin);
+    let uri = Some(ConfigError::BadOriginUri);
+    let value = Some(ConfigError::BadOriginValue);
+    Ok(
+        keeps_of_origin(alloc, "*", wildcard)?
+            && keeps_of_origin(alloc, "a b", uri)?
+            && keeps_of_origin(alloc, "", uri)?
+            && keeps_of_origin(alloc, "//#*//é=", value)?,
+    )
+}
+
+fn keeps_no_error(alloc: Global) -> Result<bool, AllocError> {
+    Ok(keeps_of_origin(alloc, "localhost:3000", None)? && keeps_of_origin(alloc, "/x", None)?)
 }
 
 #[test]
 fn refused_origins(rt: HostRuntime) -> Result<(), Fail> {
-    let alloc = rt.alloc();
-    let uri = Some(ConfigError::BadOriginUri);
-    let value = Some(ConfigError::BadOriginValue);
-    assert!(rt; keeps(alloc, &[Origin("*")], Some(ConfigError::WildcardOrigin))?);
-    assert!(rt; keeps(alloc, &[Origin("a b")], uri)?);
-    assert!(rt; keeps(alloc, &[Origin("")], uri)?);
-    assert!(rt; keeps(alloc, &[Origin("//#*//é=")], value)?);
-    assert!(rt; keeps(alloc, &[Origin("localhost:3000")], None)?);
-    assert!(rt; keeps(alloc, &[Origin("/x")], None)?);
+    assert!(rt; keeps_each_error(rt.alloc())?);
+    assert!(rt; keeps_no_error(rt.alloc())?);
     Ok(())
 }
 
@@ -187,18 +225,46 @@ fn the_first_error_is_kept(rt: HostRuntime) -> Result<(), Fail> {
     Ok(())
 }
 
+type Made = CorsMiddleware<Inner, NoRule>;
+
+fn made(alloc: Global, cors: &Cors<NoRule>) -> Result<Made, CorsInitError> {
+    service_under(
+        cors,
+        Inner {
+            alloc,
+            is_empty: false,
+        },
+    )
+}
+
+fn is_config(error: CorsInitError, wanted: ConfigError) -> Result<bool, AllocError> {
+    match error {
+        CorsInitError::Config(found) => Ok(found == wanted && found.text() == wanted.text()),
+        CorsInitError::Memory => Err(AllocError),
+    }
+}
+
+fn is_refused_for(
+    made: &Result<Made, CorsInitError>,
+    error: ConfigError,
+) -> Result<bool, AllocError> {
+    match made {
+        Ok(_) => Ok(false),
+        Err(found) => is_config(*found, error),
+    }
+}
+
+fn is_refused_under(
+    alloc: Global,
+    cors: &Cors<NoRule>,
+    error: ConfigError,
+) -> Result<bool, AllocError> {
+    is_refused_for(&made(alloc, cors), error)
+}
+
 // Whether no service is put under a policy after the calls, because of this error.
 fn is_refused(alloc: Global, calls: &[Call], error: ConfigError) -> Result<bool, AllocError> {
-    let cors = built(alloc, calls)?;
-    let inner = Inner {
-        alloc,
-        is_empty: false,
-    };
-    match cors.new_transform(inner).into_inner() {
-        Ok(_) => Ok(false),
-        Err(CorsInitError::Config(found)) => Ok(found == error && found.text() == error.text()),
-        Err(CorsInitError::Memory) => Err(AllocError),
-    }
+    is_refused_under(alloc, &built(alloc, calls)?, error)
 }
 
 #[test]
@@ -267,6 +333,25 @@ fn a_preflight_goes_by_options(rt: HostRuntime) -> Result<(), Fail> {
     Ok(())
 }
 
+fn says_and_grants(
+    alloc: Global,
+    policy: &Policy<NoRule>,
+    asked: Asked,
+    checks: Checks,
+    grant: &[u8],
+) -> Result<bool, AllocError> {
+    let head = head(alloc, asked)?;
+    Ok(says(policy, &head, checks) && grants(policy, &head, grant))
+}
+
+fn copy_of(alloc: Global, cors: &Cors<NoRule>) -> Result<Policy<NoRule>, AllocError> {
+    cors.policy().copy(alloc)
+}
+
+fn copy_after(alloc: Global, calls: &[Call]) -> Result<Policy<NoRule>, AllocError> {
+    copy_of(alloc, &built(alloc, calls)?)
+}
+
 // Whether a copy of a policy after the calls says so of the request, and writes this grant.
 fn copy_says(
     alloc: Global,
@@ -275,9 +360,7 @@ fn copy_says(
     checks: Checks,
     grant: &[u8],
 ) -> Result<bool, AllocError> {
-    let policy = built(alloc, calls)?.policy().copy(alloc)?;
-    let head = head(alloc, asked)?;
-    Ok(says(&policy, &head, checks) && grants(&policy, &head, grant))
+    says_and_grants(alloc, &copy_after(alloc, calls)?, asked, checks, grant)
 }
 
 #[test]
@@ -300,8 +383,12 @@ fn no_rule_allows(alloc: Global, origin: &[u8], asked: Asked) -> Result<bool, Al
     Ok(NoRule.allows(origin, &head(alloc, asked)?))
 }
 
+fn has_some_config_error(cors: &Cors<NoRule>) -> bool {
+    cors.config_error().is_some()
+}
+
 fn has_config_error(alloc: Global, calls: &[Call]) -> Result<bool, AllocError> {
-    Ok(built(alloc, calls)?.config_error().is_some())
+    Ok(has_some_config_error(&built(alloc, calls)?))
 }
 
 #[test]
@@ -311,6 +398,23 @@ fn no_rule_and_no_error(rt: HostRuntime) -> Result<(), Fail> {
     Ok(())
 }
 
+// Whether there are so many headers, and `vary` has this value.
+fn has_vary(headers: &HeaderList, count: usize, value: &[u8]) -> bool {
+    match headers.get(&VARY) {
+        Some(found) => headers.len() == count && found.as_bytes() == value,
+        None => false,
+    }
+}
+
+fn varies_once_added(
+    headers: &mut HeaderList,
+    count: usize,
+    value: &[u8],
+) -> Result<bool, AllocError> {
+    add_vary_header(headers)?;
+    Ok(has_vary(headers, count, value))
+}
+
 // Whether so many headers are left once `vary` is added, of this value.
 fn varies(
     alloc: Global,
@@ -318,12 +422,7 @@ fn varies(
     count: usize,
     value: &[u8],
 ) -> Result<bool, AllocError> {
-    let mut headers = list_of(alloc, fields)?;
-    add_vary_header(&mut headers)?;
-    match headers.get(&VARY) {
-        Some(found) => Ok(headers.len() == count && found.as_bytes() == value),
-        None => Ok(false),
-    }
+    varies_once_added(&mut list_of(alloc, fields)?, count, value)
 }
 
 #[test]
@@ -361,19 +460,6 @@ fn a_fault_answers_with_its_response(rt: HostRuntime) -> Result<(), Fail> {
     Ok(())
 }
 
-type Made = CorsMiddleware<Inner, NoRule>;
-
-fn made(alloc: Global, cors: &Cors<NoRule>) -> Result<Made, AllocError> {
-    let inner = Inner {
-        alloc,
-        is_empty: false,
-    };
-    match cors.new_transform(inner).into_inner() {
-        Ok(service) => Ok(service),
-        Err(_) => Err(AllocError),
-    }
-}
-
 fn shows_law(service: &Made) {
     middleware_is_cors(service)
 }
@@ -385,11 +471,26 @@ fn is_ready(task: &MockTask, service: &Made) -> bool {
     }
 }
 
+fn law_and_ready(task: &MockTask, service: &Made) -> bool {
+    shows_law(service);
+    is_ready(task, service)
+}
+
+// Whether the service is made and ready.
+fn is_made_ready(task: &MockTask, made: &Result<Made, CorsInitError>) -> Result<bool, AllocError> {
+    match made {
+        Ok(service) => Ok(law_and_ready(task, service)),
+        Err(_) => Err(AllocError),
+    }
+}
+
+fn is_ready_under(task: &MockTask, alloc: Global, cors: &Cors<NoRule>) -> Result<bool, AllocError> {
+    is_made_ready(task, &made(alloc, cors))
+}
+
 // Whether a service under the empty policy is ready.
 fn made_is_ready(task: &MockTask, alloc: Global) -> Result<bool, AllocError> {
-    let service = made(alloc, &Cors::default(alloc))?;
-    shows_law(&service);
-    Ok(is_ready(task, &service))
+    is_ready_under(task, alloc, &Cors::default(alloc))
 }
 
 #[test]
@@ -399,9 +500,17 @@ fn a_middleware_is_as_ready_as_its_service(rt: HostRuntime) -> Result<(), Fail> 
     Ok(())
 }
 
+fn equals(one: &Cors<NoRule>, other: &Cors<NoRule>) -> bool {
+    *one == *other
+}
+
+fn equals_after(alloc: Global, one: &Cors<NoRule>, other: &[Call]) -> Result<bool, AllocError> {
+    Ok(equals(one, &built(alloc, other)?))
+}
+
 // Whether the builders are equal after these calls.
 fn are_equal(alloc: Global, one: &[Call], other: &[Call]) -> Result<bool, AllocError> {
-    Ok(built(alloc, one)? == built(alloc, other)?)
+    equals_after(alloc, &built(alloc, one)?, other)
 }
 
 #[test]
@@ -427,11 +536,17 @@ fn a_kept_error_is_no_part_of_a_policy(rt: HostRuntime) -> Result<(), Fail> {
     Ok(())
 }
 
+fn has_policy_of(one: &Cors<NoRule>, other: &Cors<NoRule>) -> bool {
+    *one.policy() == *other.policy()
+}
+
+fn has_policy_after(alloc: Global, one: &Cors<NoRule>, other: &[Call]) -> Result<bool, AllocError> {
+    Ok(has_policy_of(one, &built(alloc, other)?))
+}
+
 // Whether the policies are equal after these calls.
 fn have_equal_policies(alloc: Global, one: &[Call], other: &[Call]) -> Result<bool, AllocError> {
-    let one = built(alloc, one)?;
-    let other = built(alloc, other)?;
-    Ok(*one.policy() == *other.policy())
+    has_policy_after(alloc, &built(alloc, one)?, other)
 }
 
 const A: Call = Origin("https://a.example");
@@ -447,8 +562,12 @@ fn the_order_of_a_builders_calls_is_no_matter(rt: HostRuntime) -> Result<(), Fai
     Ok(())
 }
 
+fn host(alloc: Global, k: u32) -> Result<String, AllocError> {
+    format!(in alloc; "https://host-{k}.example")
+}
+
 fn and_host(alloc: Global, cors: Cors<NoRule>, k: u32) -> Result<Cors<NoRule>, AllocError> {
-    let origin = format!(in alloc; "https://host-{k}.example")?;
+    let origin = host(alloc, k)?;
     cors.allowed_origin(origin.as_str())
 }
 
@@ -460,16 +579,33 @@ fn many_origins(alloc: Global) -> Result<Cors<NoRule>, AllocError> {
     Ok(cors)
 }
 
+// Whether the builder has no error, and these parts answer a request.
+fn has_no_error_and_gives(
+    task: &MockTask,
+    alloc: Global,
+    cors: &Cors<NoRule>,
+    asked: Asked,
+    parts: &[&str],
+) -> Result<bool, AllocError> {
+    Ok(cors.error().is_none() && is_answered(task, alloc, cors, asked, parts)?)
+}
+
+fn many_origins_give(
+    task: &MockTask,
+    alloc: Global,
+    asked: Asked,
+    parts: &[&str],
+) -> Result<bool, AllocError> {
+    has_no_error_and_gives(task, alloc, &many_origins(alloc)?, asked, parts)
+}
+
 // Whether a thousand origins are taken without an error, and these parts then answer a request.
 fn many_origins_answer<R>(rt: &R, asked: Asked, parts: &[&str]) -> Result<bool, Fail>
 where
     R: RandomSource + AllocGlobal,
 {
-    let cors = many_origins(rt.alloc())?;
-    if cors.error().is_some() {
-        return Ok(false);
-    }
-    is_answered(rt, &cors, asked, parts)
+    let task = MockTask::new(rt)?;
+    Ok(many_origins_give(&task, rt.alloc(), asked, parts)?)
 }
 
 #[test]

@@ -39,14 +39,18 @@ fn times(headers: &HeaderList, name: &[u8]) -> u8 {
     }
 }
 
+// Whether the four headers are found in any case.
+fn are_found(list: &HeaderList) -> bool {
+    list.len() == 4
+        && begins_with(list, &VARY, b"a")
+        && times(list, b"vary") == 2
+        && times(list, b"age") == 1
+        && times(list, b"host") == 0
+}
+
 #[test]
 fn a_header_is_looked_up_in_any_case(rt: HostRuntime) -> Result<(), Fail> {
-    let list = four_headers(rt.alloc())?;
-    assert!(rt; list.len() == 4);
-    assert!(rt; begins_with(&list, &VARY, b"a"));
-    assert!(rt; times(&list, b"vary") == 2);
-    assert!(rt; times(&list, b"age") == 1);
-    assert!(rt; times(&list, b"host") == 0);
+    assert!(rt; are_found(&four_headers(rt.alloc())?));
     Ok(())
 }
 
@@ -60,16 +64,30 @@ fn insert(
     list.insert(name, value_of(alloc, value)?)
 }
 
+// Whether the headers are told so once the value is inserted.
+fn inserts(
+    list: &mut HeaderList,
+    alloc: Global,
+    header: (HeaderName, &[u8]),
+    wanted: &[u8],
+) -> Result<bool, AllocError> {
+    insert(list, alloc, header.0, header.1)?;
+    has_lines(alloc, list, wanted)
+}
+
+fn inserts_both(alloc: Global, list: &mut HeaderList) -> Result<bool, AllocError> {
+    Ok(
+        inserts(list, alloc, (VARY, b"Origin"), b"vary=Origin;age=1;")?
+            && inserts(list, alloc, (HOST, b"h"), b"vary=Origin;age=1;host=h;")?,
+    )
+}
+
 #[test]
 fn an_inserted_header_takes_the_place_of_the_first_of_its_name(
     rt: HostRuntime,
 ) -> Result<(), Fail> {
-    let alloc = rt.alloc();
-    let mut list = four_headers(alloc)?;
-    insert(&mut list, alloc, VARY, b"Origin")?;
-    assert!(rt; has_lines(alloc, &list, b"vary=Origin;age=1;")?);
-    insert(&mut list, alloc, HOST, b"h")?;
-    assert!(rt; has_lines(alloc, &list, b"vary=Origin;age=1;host=h;")?);
+    let mut list = four_headers(rt.alloc())?;
+    assert!(rt; inserts_both(rt.alloc(), &mut list)?);
     Ok(())
 }
 
@@ -78,14 +96,23 @@ fn loses(list: &mut HeaderList, name: &HeaderName, wanted: usize) -> bool {
     list.remove(name) == wanted
 }
 
+// Whether the copy has its four headers when one of the list has gone.
+fn stays(alloc: Global, list: &mut HeaderList, copy: &HeaderList) -> Result<bool, AllocError> {
+    Ok(
+        loses(list, &AGE, 1)
+            && has_lines(alloc, list, b"vary=a;vary=b;vary=c;")?
+            && has_lines(alloc, copy, b"vary=a;age=1;vary=b;vary=c;")?,
+    )
+}
+
+fn copy_stays(alloc: Global, mut list: HeaderList) -> Result<bool, AllocError> {
+    let copy = list.copy()?;
+    stays(alloc, &mut list, &copy)
+}
+
 #[test]
 fn a_copy_stays_where_its_list_is_changed(rt: HostRuntime) -> Result<(), Fail> {
-    let alloc = rt.alloc();
-    let mut list = four_headers(alloc)?;
-    let copy = list.copy()?;
-    assert!(rt; loses(&mut list, &AGE, 1));
-    assert!(rt; has_lines(alloc, &list, b"vary=a;vary=b;vary=c;")?);
-    assert!(rt; has_lines(alloc, &copy, b"vary=a;age=1;vary=b;vary=c;")?);
+    assert!(rt; copy_stays(rt.alloc(), four_headers(rt.alloc())?)?);
     Ok(())
 }
 
@@ -109,13 +136,23 @@ fn count_of_headers(headers: &HeaderList) -> usize
     headers.iter().count()
 }
 
+fn are_empty(alloc: Global) -> bool {
+    HeaderList::new(alloc).is_empty()
+}
+
+fn are_told(alloc: Global, list: &HeaderList) -> Result<bool, AllocError> {
+    Ok(is(&lines_by_iter(alloc, list)?, b"a=1;b=2;a=3;"))
+}
+
+// Whether the three headers are told in order.
+fn are_in_order(alloc: Global, list: &HeaderList) -> Result<bool, AllocError> {
+    Ok(count_of_headers(list) == 3 && are_told(alloc, list)? && !list.is_empty())
+}
+
 #[test]
 fn headers_are_told_in_order(rt: HostRuntime) -> Result<(), Fail> {
-    let alloc = rt.alloc();
-    let list = three_headers(alloc)?;
-    assert!(rt; count_of_headers(&list) == 3);
-    assert!(rt; is(&lines_by_iter(alloc, &list)?, b"a=1;b=2;a=3;"));
-    assert!(rt; !list.is_empty() && HeaderList::new(alloc).is_empty());
+    assert!(rt; are_in_order(rt.alloc(), &three_headers(rt.alloc())?)?);
+    assert!(rt; are_empty(rt.alloc()));
     Ok(())
 }
 
@@ -142,13 +179,18 @@ fn has_values(
     Ok(joined(alloc, headers, name)?.as_bytes() == wanted)
 }
 
+fn has_both_values(alloc: Global, list: &HeaderList) -> Result<bool, AllocError> {
+    has_values(alloc, list, &name_of(alloc, b"A")?, b"13")
+}
+
+// Whether all values of a name are told, and none of one that is not there.
+fn has_all_values(alloc: Global, list: &HeaderList) -> Result<bool, AllocError> {
+    Ok(has_both_values(alloc, list)? && has_values(alloc, list, &HOST, b"")?)
+}
+
 #[test]
 fn all_values_of_a_name(rt: HostRuntime) -> Result<(), Fail> {
-    let alloc = rt.alloc();
-    let list = three_headers(alloc)?;
-    let a = name_of(alloc, b"A")?;
-    assert!(rt; has_values(alloc, &list, &a, b"13")?);
-    assert!(rt; has_values(alloc, &list, &HOST, b"")?);
+    assert!(rt; has_all_values(rt.alloc(), &three_headers(rt.alloc())?)?);
     Ok(())
 }
 
@@ -178,12 +220,18 @@ fn loses_named(
     Ok(loses(list, &name_of(alloc, name)?, wanted))
 }
 
+// Whether only the headers of the name go.
+fn loses_only_named(alloc: Global, list: &mut HeaderList) -> Result<bool, AllocError> {
+    Ok(
+        loses(list, &HOST, 0)
+            && loses_named(list, alloc, b"a", 2)?
+            && has_lines(alloc, list, b"b=2;")?,
+    )
+}
+
 #[test]
 fn headers_of_a_name_go(rt: HostRuntime) -> Result<(), Fail> {
-    let alloc = rt.alloc();
-    let mut list = three_headers(alloc)?;
-    assert!(rt; loses(&mut list, &HOST, 0));
-    assert!(rt; loses_named(&mut list, alloc, b"a", 2)?);
-    assert!(rt; has_lines(alloc, &list, b"b=2;")?);
+    let mut list = three_headers(rt.alloc())?;
+    assert!(rt; loses_only_named(rt.alloc(), &mut list)?);
     Ok(())
 }

@@ -16,12 +16,16 @@ fn wide() -> Limits {
 }
 
 // 0 where more bytes are needed, the status of a refusal, and 1000 more than the length of a head.
-fn outcome(alloc: Global, limits: Limits, bytes: &[u8]) -> Result<usize, AllocError> {
-    Ok(match next_head(alloc, limits, bytes)? {
+fn outcome_of(next: &NextHead) -> usize {
+    match next {
         NextHead::Nothing => 0,
-        NextHead::Refused(status) => usize::from(status),
-        NextHead::Found(_, used) => 1000usize.saturating_add(used),
-    })
+        NextHead::Refused(status) => usize::from(*status),
+        NextHead::Found(_, used) => 1000usize.saturating_add(*used),
+    }
+}
+
+fn outcome(alloc: Global, limits: Limits, bytes: &[u8]) -> Result<usize, AllocError> {
+    Ok(outcome_of(&next_head(alloc, limits, bytes)?))
 }
 
 // Whether each shorter front of the bytes is undecided.
@@ -129,6 +133,13 @@ fn repeated(out: &mut Octets, text: &str, times: u8) -> Result<(), AllocError> {
     Ok(())
 }
 
+// A front, a text so many times, and an end.
+fn add_parts(out: &mut Octets, parts: (&str, &str, u8, &str)) -> Result<(), AllocError> {
+    add(out, parts.0.as_bytes())?;
+    repeated(out, parts.1, parts.2)?;
+    add(out, parts.3.as_bytes())
+}
+
 // Whether a front, a text so many times, and an end are cut so.
 fn are_cut(
     alloc: Global,
@@ -137,22 +148,32 @@ fn are_cut(
     wanted: usize,
 ) -> Result<bool, AllocError> {
     let mut bytes = empty(alloc);
-    add(&mut bytes, parts.0.as_bytes())?;
-    repeated(&mut bytes, parts.1, parts.2)?;
-    add(&mut bytes, parts.3.as_bytes())?;
+    add_parts(&mut bytes, parts)?;
     Ok(outcome(alloc, limits, bytes.as_bytes())? == wanted)
+}
+
+// Whether heads of 63 and 64 bytes are cut by a limit of 64.
+fn are_cut_by_bytes(alloc: Global) -> Result<bool, AllocError> {
+    let header = "GET / HTTP/1.1\r\nA: ";
+    Ok(
+        are_cut(alloc, limits(64, 1), (header, "x", 44, ""), 0)?
+            && are_cut(alloc, limits(64, 1), (header, "x", 45, ""), 431)?,
+    )
+}
+
+// Whether heads of 96 header lines and of 97 are cut by the limit of lines.
+fn are_cut_by_lines(alloc: Global) -> Result<bool, AllocError> {
+    let line = "GET / HTTP/1.1\r\n";
+    Ok(
+        are_cut(alloc, wide(), (line, "a:\r\n", 96, "\r\n"), 1402)?
+            && are_cut(alloc, wide(), (line, "a:\r\n", 97, "\r\n"), 431)?,
+    )
 }
 
 #[test]
 fn heads_at_the_limit(rt: HostRuntime) -> Result<(), Fail> {
-    let alloc = rt.alloc();
-    let line = "GET / HTTP/1.1\r\n";
-    let header = "GET / HTTP/1.1\r\nA: ";
-    assert!(rt; are_cut(alloc, limits(64, 1), (header, "x", 44, ""), 0)?);
-    assert!(rt; are_cut(alloc, limits(64, 1), (header, "x", 45, ""), 431)?);
-    // 96 header lines and 97
-    assert!(rt; are_cut(alloc, wide(), (line, "a:\r\n", 96, "\r\n"), 1402)?);
-    assert!(rt; are_cut(alloc, wide(), (line, "a:\r\n", 97, "\r\n"), 431)?);
+    assert!(rt; are_cut_by_bytes(rt.alloc())?);
+    assert!(rt; are_cut_by_lines(rt.alloc())?);
     Ok(())
 }
 
@@ -161,32 +182,37 @@ fn are_limits(limits: Limits, head: usize, body: usize) -> bool {
     limits.head() == head && limits.body() == body
 }
 
+fn is_framed_head(next: &NextHead, wanted: Framing) -> bool {
+    match next {
+        NextHead::Found(head, _) => framing_of(head, 9) == wanted,
+        _ => false,
+    }
+}
+
 // Whether the body of the request is framed so.
 fn is_framed(alloc: Global, bytes: &[u8], wanted: Framing) -> Result<bool, AllocError> {
-    Ok(match next_head(alloc, limits(512, 9), bytes)? {
-        NextHead::Found(head, _) => framing_of(&head, 9) == wanted,
-        _ => false,
-    })
+    Ok(is_framed_head(&next_head(alloc, limits(512, 9), bytes)?, wanted))
+}
+
+fn is_empty(alloc: Global) -> Result<bool, AllocError> {
+    is_framed(alloc, b"GET / HTTP/1.1\r\n\r\n", Framing::Empty)
+}
+
+fn is_sized(alloc: Global) -> Result<bool, AllocError> {
+    let bytes = b"GET / HTTP/1.1\r\nContent-Length: 9\r\n\r\n";
+    is_framed(alloc, bytes, Framing::Sized(9))
+}
+
+fn is_chunked(alloc: Global) -> Result<bool, AllocError> {
+    let bytes = b"GET / HTTP/1.1\r\nTransfer-Encoding: chunked\r\n\r\n";
+    is_framed(alloc, bytes, Framing::Chunked)
 }
 
 #[test]
 fn framings(rt: HostRuntime) -> Result<(), Fail> {
-    let alloc = rt.alloc();
     assert!(rt; are_limits(limits(512, 9), 512, 9));
-    assert!(rt; is_framed(alloc, b"GET / HTTP/1.1\r\n\r\n", Framing::Empty)?);
-    assert!(rt;
-        is_framed(
-            alloc,
-            b"GET / HTTP/1.1\r\nContent-Length: 9\r\n\r\n",
-            Framing::Sized(9)
-        )?
-    );
-    assert!(rt;
-        is_framed(
-            alloc,
-            b"GET / HTTP/1.1\r\nTransfer-Encoding: chunked\r\n\r\n",
-            Framing::Chunked
-        )?
-    );
+    assert!(rt; is_empty(rt.alloc())?);
+    assert!(rt; is_sized(rt.alloc())?);
+    assert!(rt; is_chunked(rt.alloc())?);
     Ok(())
 }

@@ -26,18 +26,19 @@ fn refusals_and_more(alloc: Global) -> Result<Octets, AllocError> {
     Ok(out)
 }
 
+fn is_refusal(alloc: Global) -> Result<bool, AllocError> {
+    Ok(is(
+        &refusal(alloc)?,
+        b"HTTP/1.1 400 Bad Request\r\ncontent-length: 0\r\nconnection: close\r\n\r\n",
+    ))
+}
+
 #[test]
 fn refusals(rt: HostRuntime) -> Result<(), Fail> {
-    let alloc = rt.alloc();
+    assert!(rt; is_refusal(rt.alloc())?);
     assert!(rt;
         is(
-            &refusal(alloc)?,
-            b"HTTP/1.1 400 Bad Request\r\ncontent-length: 0\r\nconnection: close\r\n\r\n"
-        )
-    );
-    assert!(rt;
-        is(
-            &refusals_and_more(alloc)?,
+            &refusals_and_more(rt.alloc())?,
             b"HTTP/1.1 431 Request Header Fields Too Large\r\ncontent-length: 0\r\nconnection: close\r\n\r\nHTTP/1.1 413 Payload Too Large\r\ncontent-length: 0\r\nconnection: close\r\n\r\nHTTP/1.1 100 Continue\r\n\r\n"
         )
     );
@@ -126,17 +127,28 @@ fn is_empty_response(
     is_written(&response, asked, alloc, text.as_bytes())
 }
 
+fn has_no_content(alloc: Global) -> Result<bool, AllocError> {
+    let stays = "HTTP/1.1 204 No Content\r\nconnection: keep-alive\r\n\r\n";
+    let closes = "HTTP/1.1 204 No Content\r\nconnection: close\r\n\r\n";
+    Ok(
+        is_empty_response(alloc, 204, (HttpVersion::Http10, false), stays)?
+            && is_empty_response(alloc, 204, (HttpVersion::Http10, true), closes)?,
+    )
+}
+
+fn has_empty_content(alloc: Global) -> Result<bool, AllocError> {
+    let reset = "HTTP/1.1 205 Reset Content\r\ncontent-length: 0\r\n\r\n";
+    let unknown = "HTTP/1.1 999 \r\ncontent-length: 0\r\n\r\n";
+    Ok(
+        is_empty_response(alloc, 205, (HttpVersion::Http11, false), reset)?
+            && is_empty_response(alloc, 999, (HttpVersion::Http11, false), unknown)?,
+    )
+}
+
 #[test]
 fn statuses_without_a_body(rt: HostRuntime) -> Result<(), Fail> {
-    let alloc = rt.alloc();
-    let text = "HTTP/1.1 204 No Content\r\nconnection: keep-alive\r\n\r\n";
-    assert!(rt; is_empty_response(alloc, 204, (HttpVersion::Http10, false), text)?);
-    let text = "HTTP/1.1 204 No Content\r\nconnection: close\r\n\r\n";
-    assert!(rt; is_empty_response(alloc, 204, (HttpVersion::Http10, true), text)?);
-    let text = "HTTP/1.1 205 Reset Content\r\ncontent-length: 0\r\n\r\n";
-    assert!(rt; is_empty_response(alloc, 205, (HttpVersion::Http11, false), text)?);
-    let text = "HTTP/1.1 999 \r\ncontent-length: 0\r\n\r\n";
-    assert!(rt; is_empty_response(alloc, 999, (HttpVersion::Http11, false), text)?);
+    assert!(rt; has_no_content(rt.alloc())?);
+    assert!(rt; has_empty_content(rt.alloc())?);
     Ok(())
 }
 
@@ -158,17 +170,23 @@ fn has_parts(response: &Response, status: u16, headers: usize, body: &[u8]) -> b
     response.status() == status && response.headers().len() == headers && response.body() == body
 }
 
+// Whether the text with a header is written with it.
+fn is_written_so(alloc: Global, response: &Response) -> Result<bool, AllocError> {
+    is_written(
+        response,
+        (&Method::GET, HttpVersion::Http11, true),
+        alloc,
+        b"HTTP/1.1 404 Not Found\r\nvary: Origin\r\ncontent-length: 12\r\nconnection: close\r\n\r\nno such page",
+    )
+}
+
+// Whether the text has the header, and is written with it.
+fn is_changed(alloc: Global, response: &Response) -> Result<bool, AllocError> {
+    Ok(has_parts(response, 404, 1, b"no such page") && is_written_so(alloc, response)?)
+}
+
 #[test]
 fn a_response_is_changed(rt: HostRuntime) -> Result<(), Fail> {
-    let response = no_such_page(rt.alloc())?;
-    assert!(rt; has_parts(&response, 404, 1, b"no such page"));
-    assert!(rt;
-        is_written(
-            &response,
-            (&Method::GET, HttpVersion::Http11, true),
-            rt.alloc(),
-            b"HTTP/1.1 404 Not Found\r\nvary: Origin\r\ncontent-length: 12\r\nconnection: close\r\n\r\nno such page"
-        )?
-    );
+    assert!(rt; is_changed(rt.alloc(), &no_such_page(rt.alloc())?)?);
     Ok(())
 }

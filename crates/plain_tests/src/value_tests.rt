@@ -13,11 +13,15 @@ fn origin(alloc: Global) -> Result<FieldValue, AllocError> {
     Ok(FieldValue::from_octets(Octets::of(alloc, b"Origin")?))
 }
 
-fn both(alloc: Global) -> Result<FieldValue, AllocError> {
-    let mut value = FieldValue::empty(alloc);
+fn add_both(value: &mut FieldValue, accept: &FieldValue) -> Result<(), AllocError> {
     value.push_field_bytes(b"Origin")?;
     value.push_field_bytes(b", ")?;
-    value.push_value(&accept(alloc)?)?;
+    value.push_value(accept)
+}
+
+fn both(alloc: Global) -> Result<FieldValue, AllocError> {
+    let mut value = FieldValue::empty(alloc);
+    add_both(&mut value, &accept(alloc)?)?;
     Ok(value)
 }
 
@@ -34,11 +38,21 @@ fn values_are_joined(rt: HostRuntime) -> Result<(), Fail> {
     Ok(())
 }
 
+fn are_equal(one: &FieldValue, other: &FieldValue) -> bool {
+    *one == *other
+}
+
+fn equals_its_copy(value: &FieldValue) -> Result<bool, AllocError> {
+    Ok(are_equal(value, &value.copy()?))
+}
+
+fn equals_its_clone(value: &FieldValue) -> Result<bool, AllocError> {
+    Ok(are_equal(value, &value.clone()?))
+}
+
 // Whether a copy and a clone are equal to the value.
-fn equals_its_copies(value: FieldValue) -> Result<bool, AllocError> {
-    let copy = value.copy()?;
-    let clone = value.clone()?;
-    Ok(value == copy && value == clone)
+fn equals_its_copies(value: &FieldValue) -> Result<bool, AllocError> {
+    Ok(equals_its_copy(value)? && equals_its_clone(value)?)
 }
 
 // Whether the first value is less than the second, both ways.
@@ -46,12 +60,24 @@ fn are_in_order(less: FieldValue, greater: FieldValue) -> bool {
     less < greater && greater > less
 }
 
+fn accept_equals_its_copies(alloc: Global) -> Result<bool, AllocError> {
+    equals_its_copies(&accept(alloc)?)
+}
+
+fn origin_equals_its_copies(alloc: Global) -> Result<bool, AllocError> {
+    equals_its_copies(&origin(alloc)?)
+}
+
+fn accept_is_less_than_origin(alloc: Global) -> Result<bool, AllocError> {
+    Ok(are_in_order(accept(alloc)?, origin(alloc)?))
+}
+
 #[test]
 fn values_are_compared_by_their_bytes(rt: HostRuntime) -> Result<(), Fail> {
     let alloc = rt.alloc();
-    assert!(rt; equals_its_copies(accept(alloc)?)?);
-    assert!(rt; equals_its_copies(origin(alloc)?)?);
-    assert!(rt; are_in_order(accept(alloc)?, origin(alloc)?));
+    assert!(rt; accept_equals_its_copies(alloc)?);
+    assert!(rt; origin_equals_its_copies(alloc)?);
+    assert!(rt; accept_is_less_than_origin(alloc)?);
     Ok(())
 }
 
@@ -77,12 +103,17 @@ fn is_text(alloc: Global, bytes: &[u8], wanted: Option<&str>) -> Result<bool, Al
     Ok(value.as_text() == wanted)
 }
 
+fn are_texts(alloc: Global) -> Result<bool, AllocError> {
+    Ok(is_text(alloc, b"\tvisible ~", Some("\tvisible ~"))? && is_text(alloc, b"", Some(""))?)
+}
+
+fn are_no_texts(alloc: Global) -> Result<bool, AllocError> {
+    Ok(is_text(alloc, b"\x80", None)? && is_text(alloc, b"a\x7f", None)?)
+}
+
 #[test]
 fn values_as_text(rt: HostRuntime) -> Result<(), Fail> {
-    let alloc = rt.alloc();
-    assert!(rt; is_text(alloc, b"\tvisible ~", Some("\tvisible ~"))?);
-    assert!(rt; is_text(alloc, b"\x80", None)?);
-    assert!(rt; is_text(alloc, b"a\x7f", None)?);
-    assert!(rt; is_text(alloc, b"", Some(""))?);
+    assert!(rt; are_texts(rt.alloc())?);
+    assert!(rt; are_no_texts(rt.alloc())?);
     Ok(())
 }
