@@ -31,6 +31,7 @@ check "a preflight" 0 "$(cat "$top/examples/preflight.report")" "$top/examples/p
 check "a refused policy" 4 'startup refused: `allowed_origin` argument must not be wildcard (`*`)' "$top/examples/refused-policy.script" replay
 check "the version" 0 "dongurapi 0.1.0" /dev/null --version
 check "words that are no form" 2 "usage: replay | listen ADDR N | generate N K" /dev/null replay now
+check "a form that is not built yet" 2 "usage: replay | listen ADDR N | generate N K" /dev/null listen 127.0.0.1:0 1
 check "no words" 2 "usage: replay | listen ADDR N | generate N K" /dev/null
 check "an empty script" 4 "startup refused: no listener" /dev/null replay
 check "no script" 3 "script line 3 is not understood" "$top/README.md" replay
@@ -61,11 +62,13 @@ mkdir -p "$work/bare/crates/dongurapi/src"
 cp "$top/dongurapi" "$top/crates.txt" "$work/bare"
 built=$("$top/dongurapi" --version 2>&1 > /dev/null)
 bare=$("$work/bare/dongurapi" listen 127.0.0.1:0 1 2>&1)
-if [ -z "$built" ] && [ "$bare" = "dongurapi: listening wants the built program, which is not here or older than its sources: ./dongurapi build" ]; then
+note=$("$top/dongurapi" listen 127.0.0.1:0 1 2>&1 > /dev/null)
+if [ -z "$built" ] && [ "$note" = "dongurapi: listen and generate are not built yet" ] \
+    && [ "$bare" = "dongurapi: 'listen' is not built yet; the one form for now is 'replay'" ]; then
     passed=$((passed + 1))
 else
     failed=$((failed + 1))
-    printf 'failed: the launcher: %s; %s\n' "$built" "$bare"
+    printf 'failed: the launcher: %s; %s; %s\n' "$built" "$note" "$bare"
 fi
 echo "$passed passed, $failed failed"
 [ "$failed" = 0 ]

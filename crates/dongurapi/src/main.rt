@@ -4,9 +4,10 @@
 ghost use Rattle.std.specs.Prelude.{◌≡◌, None};
 ghost use Rattle.script.specs.Words.{IsReplay};
 
-use script::words_of;
-use server_program::{Streams, run, write_all};
+use command_line::{print, words_of};
+use server_program::{Streams, run};
 use service_core::Octets;
+use std::alloc::{AllocError, Global};
 use std::process::ExitCode;
 
 const HELP: &str = "\
@@ -14,6 +15,8 @@ dongurapi serves connections over HTTP/1.1 under a policy on cross-origin reques
 
 usage: dongurapi replay < SCRIPT
        dongurapi --help | --version
+
+`listen ADDR N` and `generate N K`, which the usage of status 2 names too, are not built yet.
 
 replay   reads a script of connections from standard input, serves each over a link in memory, and
          prints what was written on it. Lines of a script: `listener`; `conn PEER` with PEER as
@@ -26,19 +29,19 @@ replay   reads a script of connections from standard input, serves each over a l
 
 status   0 served; 2 the words are none of these; 3 a line of the script is not understood, or the
          script is too long; 4 the script names no listener, or its policy is refused; 5 a read failed;
-         6 a write failed; 7 memory ran out
-";
+         6 a write failed; 7 memory ran out";
 
-const VERSION: &str = "dongurapi 0.1.0\n";
+const VERSION: &str = "dongurapi 0.1.0";
 
-const OUT_OF_MEMORY: &str = "out of memory\n";
+const OUT_OF_MEMORY: &str = "out of memory";
 
-// Prints a text. The status is the one given, or that of a write that failed.
-fn print(rt: &HostRuntime, text: &str, status: u8) -> u8 {
-    match write_all(&mut Streams::new(rt), text.as_bytes()) {
-        Ok(()) => status,
-        Err(_) => 6,
+// The words behind the program's name. Where they cannot be had, as where one is not UTF-8, there are none, which is no form.
+fn given_words(rt: &HostRuntime, alloc: Global) -> Result<Vec<Octets>, AllocError> {
+    let mut words = Vec::new(alloc);
+    for word in words_of(rt)? {
+        words.push(Octets::from_vec(word.into_bytes()))?;
     }
+    Ok(words)
 }
 
 // What the one word asks for beside the forms of `run`, which it leaves alone.
@@ -52,13 +55,27 @@ fn asked(words: &[Octets]) -> Option<&'static str>
     }
 }
 
+// Whether the words begin a form that the usage names and that is not built yet.
+fn is_yet_to_come(words: &[Octets]) -> bool {
+    match words {
+        [word, ..] => {
+            word.as_bytes() == b"listen".as_slice() || word.as_bytes() == b"generate".as_slice()
+        }
+        [] => false,
+    }
+}
+
 fn main(rt: HostRuntime) -> ExitCode {
     let alloc = rt.alloc();
-    let Ok(words) = words_of(&rt, alloc) else {
+    let Ok(words) = given_words(&rt, alloc) else {
         return ExitCode::from(print(&rt, OUT_OF_MEMORY, 7));
     };
     if let Some(text) = asked(&words) {
         return ExitCode::from(print(&rt, text, 0));
+    }
+    if is_yet_to_come(&words) {
+        // (a note for the reader alone: what is answered is the usage)
+        let _ = eprintln!(rt; "dongurapi: listen and generate are not built yet");
     }
     let mut source = Streams::new(&rt);
     let mut sink = Streams::new(&rt);

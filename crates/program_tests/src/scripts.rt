@@ -1,6 +1,6 @@
 //! What a script is read as.
 use cors_answer::Cors;
-use script::{PlainText, Reading, ScriptRule, read_script};
+use script::{PlainText, Reading, ScriptRule, build_policy, read_script};
 use service_core::Peer;
 use std::alloc::{AllocError, Global};
 use std::test::Fail;
@@ -110,7 +110,7 @@ fn a_peer_is_local_or_an_address_with_a_port(rt: HostRuntime) -> Result<(), Fail
 // The policy of a script, and the default one of a bad script.
 fn policy_of(alloc: Global, text: &str) -> Result<Cors<ScriptRule>, AllocError> {
     match read_script(alloc, text.as_bytes())? {
-        Reading::Good(script) => Ok(script.cors),
+        Reading::Good(script) => build_policy(alloc, &script.policy),
         Reading::BadLine(_) => Ok(Cors::default(alloc)),
     }
 }

@@ -1,6 +1,6 @@
 //! The words of the command line, and peers in words.
 use report::peer_text;
-use script::{is_replay, words_of};
+use script::is_replay;
 use service_core::{Octets, Peer};
 use std::alloc::{AllocError, Global};
 use std::test::Fail;
@@ -26,7 +26,6 @@ fn only_the_one_word_replay_is_replay(rt: HostRuntime) -> Result<(), Fail> {
     assert!(rt; are_replay(alloc, &["replay"])?);
     assert!(rt; !are_replay(alloc, &["replay", ""])?);
     assert!(rt; !are_replay(alloc, &[""])?);
-    assert!(rt; !is_replay(&words_of(&rt, alloc)?));
     Ok(())
 }
 

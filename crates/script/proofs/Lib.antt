@@ -1,3 +1,4 @@
+pub mod Building
 pub mod Lines
 pub mod Numbers
 pub mod OneLine

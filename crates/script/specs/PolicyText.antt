@@ -1,5 +1,5 @@
 -- The policy lines of a script, and what each changes.
-use Rattle.std.specs.Prelude.{ℕ, ◌==◌, ◌-◌, ◌^◌, nat_eq, Bool, true, false, if◌then◌else◌, List, length, drop, Option, Some, None, codes}
+use Rattle.std.specs.Prelude.{ℕ, ◌==◌, ◌-◌, ◌^◌, nat_eq, Bool, true, false, if◌then◌else◌, List, [], ◌∷◌, length, drop, Option, Some, None, codes}
 use Rattle.std.specs.List.{list_any, slice_split, starts_with}
 use Rattle.std.specs.Option.{option_map, option_or}
 use Rattle.std.specs.Str.{bytes_eq}
@@ -116,6 +116,11 @@ and_line old Credentials = set_policy old (record old.policy { credentials = tru
 and_line old NoVary = set_policy old (record old.policy { vary = false })
 and_line old NoPreflight = set_policy old (record old.policy { preflight = false })
 and_line old Block = set_policy old (record old.policy { block = true })
+
+-- what the lines change, in order
+abbrev pub and_lines : Builder ScriptRule → List PolicyLine → Builder ScriptRule
+and_lines old [] = old
+and_lines old (line ∷ lines) = and_lines (and_line old line) lines
 
 -- the line starts from everything, so none may stand before it
 abbrev pub is_permissive : PolicyLine → Bool

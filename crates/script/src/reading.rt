@@ -1,7 +1,6 @@
 //! Reads a script line by line.
-ghost use Rattle.std.specs.Prelude.{◌≡◌, ◌==◌, ◌+◌, length, IfOk};
+ghost use Rattle.std.specs.Prelude.{◌≡◌, ◌==◌, ◌+◌, if◌then◌else◌, length, IfOk, Option, Some, None};
 ghost use Rattle.std.specs.List.{slice_split};
-ghost use Rattle.std.specs.Option.{option_map};
 ghost use Rattle.script.specs.Script.{after_line, plan_of};
 ghost use Rattle.script.specs.Plan.{plan, reading_of};
 
@@ -28,20 +27,21 @@ pub fn read_script(alloc: Global, bytes: &[u8]) -> Result<Reading, AllocError>
     let mut script = Script::new(alloc);
     let mut number = 1;
     for line in bytes.split(|b| *b == b'\n') {
-        let Some(next) = after_line(alloc, script, line)? else {
+        let taken = push_line(alloc, &mut script, line)?;
+        if !taken {
             return Ok(Reading::BadLine(number));
-        };
-        script = next;
+        }
         number += 1;
     }
     Ok(Reading::Good(script))
 }
 
-fn after_line(alloc: Global, script: Script, line: &[u8]) -> Result<Option<Script>, AllocError>
-    ensures { IfOk result (λ next. option_map plan next ≡ after_line (plan script) line.now) }
+// Takes one more line. Returns whether it is of the grammar and can stand here.
+fn push_line(alloc: Global, script: &mut Script, line: &[u8]) -> Result<bool, AllocError>
+    ensures { IfOk result (λ taken. (if taken then Some (plan script.new) else None) ≡ after_line (plan script.old) line.now) }
 {
     let Some(said) = read_line(alloc, line)? else {
-        return Ok(None);
+        return Ok(false);
     };
-    script.with_line(alloc, said)
+    script.push(alloc, said)
 }

@@ -1,6 +1,5 @@
 //! A script, and what it asks for.
-ghost use Rattle.std.specs.Prelude.{◌≡◌, ◌&&◌, ◌||◌, ◌==◌, ◌<◌, ◌+◌, ◌++◌, ℕ, List, [], length, IfOk, Option};
-ghost use Rattle.std.specs.Option.{option_map};
+ghost use Rattle.std.specs.Prelude.{◌≡◌, ◌&&◌, ◌||◌, if◌then◌else◌, false, IfOk, Option, OnErr, Some, None};
 ghost use Rattle.script.specs.Script.{with_listener, with_handler, with_policy, with_connection, with_bytes, with_line, nothing_yet};
 ghost use Rattle.script.specs.Plan.{plan};
 ghost use Rattle.script.specs.PolicyText.{is_permissive};
@@ -8,18 +7,15 @@ ghost use Rattle.script.specs.PolicyText.{is_permissive};
 use crate::connection::Connection;
 use crate::handler::Handler;
 use crate::line::Line;
-use crate::policy::{PolicyLine, ScriptRule};
-use cors_answer::Cors;
+use crate::policy::PolicyLine;
 use service_core::{Octets, Peer};
 use std::alloc::{AllocError, Global};
 
-/// What a script asks for.
+/// What the lines of a script ask for.
 #[derive(Drop)]
 pub struct Script {
-    /// The policy so far, and its first error.
-    pub cors: Cors<ScriptRule>,
-    /// Some line spoke of the policy.
-    pub has_policy: bool,
+    /// What it says of the policy, line by line.
+    pub policy: Vec<PolicyLine>,
     /// What answers the requests.
     pub handler: Handler,
     /// There is a listener.
@@ -34,90 +30,97 @@ impl Script {
         ensures { plan result ≡ nothing_yet }
     {
         Script {
-            cors: Cors::default(alloc),
-            has_policy: false,
+            policy: Vec::new(alloc),
             handler: Handler::Hello,
             listening: false,
             connection: None,
         }
     }
 
-    /// The script with what one more line says. None where the line cannot stand there.
-    pub fn with_line(self, alloc: Global, said: Line) -> Result<Option<Script>, AllocError>
-        ensures { IfOk result (λ next. option_map plan next ≡ with_line (plan self) said) }
+    /// Takes what one more line says. Returns whether it can stand here; where it cannot, and where memory runs out, the
+    /// script asks for what it asked before.
+    pub fn push(&mut self, alloc: Global, said: Line) -> Result<bool, AllocError>
+        ensures taken { IfOk result (λ taken. (if taken then Some (plan self.new) else None) ≡ with_line (plan self.old) said) }
+        ensures refused { IfOk result (λ taken. taken ≡ false → plan self.new ≡ plan self.old) }
+        ensures err { OnErr result (plan self.new ≡ plan self.old) }
     {
         match said {
-            Line::Skip => Ok(Some(self)),
-            Line::Listener => Ok(self.with_listener()),
-            Line::Conn(peer) => Ok(self.with_connection(alloc, peer)),
-            Line::Give(bytes) => self.with_bytes(&bytes),
-            Line::Handle(handler) => Ok(self.with_handler(handler)),
-            Line::Policy(line) => self.with_policy(alloc, line),
+            Line::Skip => Ok(true),
+            Line::Listener => Ok(self.push_listener()),
+            Line::Conn(peer) => Ok(self.push_connection(alloc, peer)),
+            Line::Give(bytes) => self.push_bytes(&bytes),
+            Line::Handle(handler) => Ok(self.set_handler(handler)),
+            Line::Policy(line) => self.push_policy(line),
         }
     }
 
-    fn with_listener(mut self) -> Option<Script>
-        ensures { option_map plan result ≡ with_listener (plan self) }
+    fn push_listener(&mut self) -> bool
+        ensures taken { (if result then Some (plan self.new) else None) ≡ with_listener (plan self.old) }
+        ensures refused { result ≡ false → plan self.new ≡ plan self.old }
     {
         if self.listening {
-            return None;
+            return false;
         }
         self.listening = true;
-        Some(self)
+        true
     }
 
-    fn with_handler(mut self, handler: Handler) -> Option<Script>
-        ensures { option_map plan result ≡ with_handler (plan self) handler }
+    fn set_handler(&mut self, handler: Handler) -> bool
+        ensures taken { (if result then Some (plan self.new) else None) ≡ with_handler (plan self.old) handler }
+        ensures refused { result ≡ false → plan self.new ≡ plan self.old }
     {
         if self.listening {
-            return None;
+            return false;
         }
         self.handler = handler;
-        Some(self)
+        true
     }
 
     // Whether the policy line can't stand here.
     fn refuses(&self, line: &PolicyLine) -> bool
-        ensures { result ≡ (self.now.listening || (is_permissive line.now && self.now.has_policy)) }
+        ensures { result ≡ ((plan self.now).listening || (is_permissive line.now && (plan self.now).has_policy)) }
     {
-        self.listening || (line.is_permissive() && self.has_policy)
+        self.listening || (line.is_permissive() && !self.policy.as_slice().is_empty())
     }
 
-    fn with_policy(self, alloc: Global, line: PolicyLine) -> Result<Option<Script>, AllocError>
-        ensures { IfOk result (λ next. option_map plan next ≡ with_policy (plan self) line) }
+    #[tactic(auto, using(crate::proofs::Building::one_line_more))]
+    fn push_policy(&mut self, line: PolicyLine) -> Result<bool, AllocError>
+        ensures taken { IfOk result (λ taken. (if taken then Some (plan self.new) else None) ≡ with_policy (plan self.old) line) }
+        ensures refused { IfOk result (λ taken. taken ≡ false → plan self.new ≡ plan self.old) }
+        ensures err { OnErr result (plan self.new ≡ plan self.old) }
     {
         if self.refuses(&line) {
-            return Ok(None);
+            return Ok(false);
         }
-        Ok(Some(Script {
-            cors: line.added_to(alloc, self.cors)?,
-            has_policy: true,
-            handler: self.handler,
-            listening: self.listening,
-            connection: self.connection,
-        }))
+        self.policy.push(line)?;
+        Ok(true)
     }
 
-    fn with_connection(mut self, alloc: Global, peer: Peer) -> Option<Script>
-        ensures { option_map plan result ≡ with_connection (plan self) peer }
+    fn push_connection(&mut self, alloc: Global, peer: Peer) -> bool
+        ensures taken { (if result then Some (plan self.new) else None) ≡ with_connection (plan self.old) peer }
+        ensures refused { result ≡ false → plan self.new ≡ plan self.old }
     {
         if !self.listening || self.connection.is_some() {
-            return None;
+            return false;
         }
         self.connection = Some(Connection {
             peer,
             held: Octets::new(alloc),
         });
-        Some(self)
+        true
     }
 
-    fn with_bytes(mut self, bytes: &Octets) -> Result<Option<Script>, AllocError>
-        ensures { IfOk result (λ next. option_map plan next ≡ with_bytes (plan self) bytes.now) }
+    fn push_bytes(&mut self, bytes: &Octets) -> Result<bool, AllocError>
+        ensures taken { IfOk result (λ taken. (if taken then Some (plan self.new) else None) ≡ with_bytes (plan self.old) bytes.now) }
+        ensures refused { IfOk result (λ taken. taken ≡ false → plan self.new ≡ plan self.old) }
+        ensures err { OnErr result (plan self.new ≡ plan self.old) }
     {
-        let Some(connection) = self.connection.take() else {
-            return Ok(None);
-        };
-        self.connection = Some(connection.with_bytes(bytes)?);
-        Ok(Some(self))
+        match &mut self.connection {
+            None => Ok(false),
+            Some(connection) => {
+                connection.held.push_all(bytes.as_bytes())?;
+                Ok(true)
+            }
+        }
     }
 }

@@ -40,6 +40,8 @@ pub record ShowsMemory (plan : Plan) (text : List ℕ) : Type 0 where
   pub why : (end ≡ NoRoom) ⊎ IsCutShort (site_of plan) plan.connection lines
   -- a listener is open only beside `end memory`
   pub open_by : state ≡ Open → end ≡ NoRoom
+  -- where it has ended, its connection has a line
+  pub told_by : state ≡ Ended → (lines ≡ connection_lines (site_of plan) plan.connection) ⊎ IsCutShort (site_of plan) plan.connection lines
 
 -- the report of the script, or the report of a run in which memory ran out
 abbrev pub IsReportOf : Plan → List ℕ → Type 0

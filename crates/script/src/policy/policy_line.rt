@@ -47,7 +47,7 @@ pub enum PolicyLine {
 }
 
 // The words of a text, with one space between two.
-fn words_of<'a>(alloc: Global, text: &'a PlainText) -> Result<Vec<&'a str>, AllocError>
+fn split_words<'a>(alloc: Global, text: &'a PlainText) -> Result<Vec<&'a str>, AllocError>
     ensures { IfOk result (λ list. map (λ word. word.now) list.items ≡ words text.entry.now) }
 {
     text.as_str().split(' ').collect(alloc)
@@ -64,11 +64,11 @@ impl PolicyLine {
     /// The builder after this call.
     #[tactic(auto, unfolding(crate::specs::PolicyText::and_line))]
     pub fn added_to(
-        self,
+        &self,
         alloc: Global,
         cors: Cors<ScriptRule>,
     ) -> Result<Cors<ScriptRule>, AllocError>
-        ensures { IfOk result (λ new. new ≡ and_line cors self) }
+        ensures { IfOk result (λ new. new ≡ and_line cors self.now) }
     {
         match self {
             PolicyLine::Permissive => {
@@ -77,15 +77,15 @@ impl PolicyLine {
             }
             PolicyLine::AnyOrigin => Ok(cors.allow_any_origin()),
             PolicyLine::Origin(origin) => cors.allowed_origin(origin.as_str()),
-            PolicyLine::Rule(rule) => cors.allowed_origin_fn(rule),
+            PolicyLine::Rule(rule) => cors.allowed_origin_fn(*rule),
             PolicyLine::AnyMethod => cors.allow_any_method(),
-            PolicyLine::Methods(text) => cors.allowed_methods(&words_of(alloc, &text)?),
+            PolicyLine::Methods(text) => cors.allowed_methods(&split_words(alloc, text)?),
             PolicyLine::AnyHeader => Ok(cors.allow_any_header()),
             PolicyLine::Header(name) => cors.allowed_header(name.as_str()),
-            PolicyLine::Headers(text) => cors.allowed_headers(&words_of(alloc, &text)?),
+            PolicyLine::Headers(text) => cors.allowed_headers(&split_words(alloc, text)?),
             PolicyLine::ExposeAny => Ok(cors.expose_any_header()),
-            PolicyLine::Expose(text) => cors.expose_headers(&words_of(alloc, &text)?),
-            PolicyLine::MaxAge(seconds) => Ok(cors.max_age(seconds)),
+            PolicyLine::Expose(text) => cors.expose_headers(&split_words(alloc, text)?),
+            PolicyLine::MaxAge(seconds) => Ok(cors.max_age(*seconds)),
             PolicyLine::Wildcard => Ok(cors.send_wildcard()),
             PolicyLine::Credentials => Ok(cors.supports_credentials()),
             PolicyLine::NoVary => Ok(cors.disable_vary_header()),

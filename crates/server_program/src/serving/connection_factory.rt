@@ -1,6 +1,5 @@
 //! The services of a replayed script's connections.
 ghost use Rattle.std.specs.Prelude.{◌≡◌, None, Ok, IfOk, IfErr};
-ghost use Rattle.std.specs.Arc.{arc_value};
 ghost use Rattle.futures.specs.declared.task.Poll.TheVariants.{Ready as PollReady};
 ghost use Rattle.service_core.specs.Meaning.{GivesOnly, Within};
 ghost use Rattle.cors_rules.specs.Refusing.{config_error};
@@ -8,7 +7,7 @@ ghost use Rattle.cors_answer.specs.Faults.{fault_response};
 ghost use Rattle.cors_answer.specs.Transforms.{Refuses};
 ghost use Rattle.http_service.specs.Requests.{IsFunction};
 ghost use Rattle.server_run.specs.Creating.{OnlyEnds};
-ghost use Rattle.server_program.specs.Handlers.{site};
+ghost use Rattle.server_program.specs.Factories.{connection_builder, connection_site};
 ghost use Rattle.server_program.specs.Policed.{IsPoliced};
 ghost use Rattle.server_program.specs.Serving.{default_limits, LeavesScript, ServesScript};
 
@@ -36,9 +35,9 @@ pub struct ConnectionFactory {
 impl ConnectionFactory {
     // The service of requests.
     fn policed(&self) -> Result<CorsMiddleware<HandlerService, ScriptRule>, CorsInitError>
-        ensures ok { IfOk result (IsPoliced ⟦<CorsMiddleware<HandlerService, ScriptRule> as Service<Request>>⟧ (site (arc_value self.now.cors).policy self.now.handler)) }
-        ensures made { IfOk result (λ _. config_error (arc_value self.now.cors) ≡ None) }
-        ensures err { IfErr result (Refuses (arc_value self.now.cors)) }
+        ensures ok { IfOk result (IsPoliced ⟦<CorsMiddleware<HandlerService, ScriptRule> as Service<Request>>⟧ (connection_site self.now)) }
+        ensures made { IfOk result (λ _. config_error (connection_builder self.now) ≡ None) }
+        ensures err { IfErr result (Refuses (connection_builder self.now)) }
     {
         let service = HandlerService {
             alloc: self.alloc,
@@ -63,17 +62,17 @@ impl<L: Link> ServiceFactory<L> for ConnectionFactory {
         Result<H1ServiceHandler<CorsMiddleware<HandlerService, ScriptRule>>, CorsInitError>,
     >;
 
-    ghost may = { λ f _ link r. OnlyEnds (ServesScript (site (arc_value f.cors).policy f.handler) L.Link link) r };
+    ghost may = { λ f _ link r. OnlyEnds (ServesScript (connection_site f) L.Link link) r };
 
     ghost may_ready = { λ _ _ answer. answer ≡ PollReady (Ok tt) };
 
     ghost may_begin = { λ f _ link future.
-        GivesOnly ⟦<H1ServiceHandlerResponse<L, CorsMiddleware<HandlerService, ScriptRule>> as Future>⟧ future (OnlyEnds (ServesScript (site (arc_value f.cors).policy f.handler) L.Link link))
-        × Within (⟦<H1ServiceHandlerResponse<L, CorsMiddleware<HandlerService, ScriptRule>> as LinkHolder<L>>⟧.may_stand future) (LeavesScript (site (arc_value f.cors).policy f.handler) L.Link link) };
+        GivesOnly ⟦<H1ServiceHandlerResponse<L, CorsMiddleware<HandlerService, ScriptRule>> as Future>⟧ future (OnlyEnds (ServesScript (connection_site f) L.Link link))
+        × Within (⟦<H1ServiceHandlerResponse<L, CorsMiddleware<HandlerService, ScriptRule>> as LinkHolder<L>>⟧.may_stand future) (LeavesScript (connection_site f) L.Link link) };
 
-    ghost may_init = { λ f _ error. Refuses (arc_value f.cors) error };
+    ghost may_init = { λ f _ error. Refuses (connection_builder f) error };
 
-    ghost may_make = { λ f _. config_error (arc_value f.cors) ≡ None };
+    ghost may_make = { λ f _. config_error (connection_builder f) ≡ None };
 
     ghost begun_gives = { λ f c q fut begun. begun.0 };
 

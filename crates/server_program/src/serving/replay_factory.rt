@@ -1,10 +1,9 @@
 //! The factory of a replayed script's services, by token.
 ghost use Rattle.std.specs.Prelude.{◌≡◌, None, Ok, IfOk};
-ghost use Rattle.std.specs.Arc.{arc_value};
 ghost use Rattle.futures.specs.declared.task.Poll.TheVariants.{Ready as PollReady};
 ghost use Rattle.cors_rules.specs.Refusing.{config_error};
 ghost use Rattle.cors_answer.specs.Transforms.{Refuses};
-ghost use Rattle.server_program.specs.Handlers.{site};
+ghost use Rattle.server_program.specs.Factories.{replay_builder, replay_site};
 ghost use Rattle.server_program.specs.Serving.{LeavesScript, ServesScript};
 
 use crate::serving::ConnectionFactory;
@@ -29,8 +28,8 @@ impl ReplayFactory {
         cors: Cors<ScriptRule>,
         handler: Handler,
     ) -> Result<ReplayFactory, AllocError>
-        ensures cors { IfOk result (λ factory. arc_value factory.cors ≡ cors) }
-        ensures handler { IfOk result (λ factory. factory.handler ≡ handler) }
+        ensures cors { IfOk result (λ factory. replay_builder factory ≡ cors) }
+        ensures handler { IfOk result (λ factory. (replay_site factory).handler ≡ handler) }
     {
         Ok(ReplayFactory {
             cors: Arc::new(alloc, cors)?,
@@ -42,15 +41,15 @@ impl ReplayFactory {
 impl<L: Link> ServerServiceFactory<L> for ReplayFactory {
     type Factory = ConnectionFactory;
 
-    ghost may_serve = { λ f _ link ended. ServesScript (site (arc_value f.cors).policy f.handler) L.Link link ended };
+    ghost may_serve = { λ f _ link ended. ServesScript (replay_site f) L.Link link ended };
 
-    ghost may_leave = { λ f _ link back. LeavesScript (site (arc_value f.cors).policy f.handler) L.Link link back };
+    ghost may_leave = { λ f _ link back. LeavesScript (replay_site f) L.Link link back };
 
     ghost may_ready = { λ _ _ answer. answer ≡ PollReady (Ok tt) };
 
-    ghost may_init = { λ f _ error. Refuses (arc_value f.cors) error };
+    ghost may_init = { λ f _ error. Refuses (replay_builder f) error };
 
-    ghost may_make = { λ f _. config_error (arc_value f.cors) ≡ None };
+    ghost may_make = { λ f _. config_error (replay_builder f) ≡ None };
 
     fn create(&self, alloc: Global, _token: usize) -> Result<ConnectionFactory, AllocError> {
         Ok(ConnectionFactory {
