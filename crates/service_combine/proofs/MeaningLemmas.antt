@@ -1,7 +1,7 @@
 -- A meaning made of wider parts is wider.
 use Rattle.std.proofs.Common.{Result, Ok, Err, inl, inr}
 use Rattle.std.specs.Prelude.{⊤}
-use Rattle.service_core.specs.Meaning.{Follows, Readiness, Through, Within}
+use Rattle.service_core.specs.Meaning.{Follows, Readiness, Within}
 use Rattle.service_core.specs.Making.{LiesWithin, Makes}
 use Rattle.service_core.specs.declared.service.Service.{Ghosts as ServiceOf}
 use Rattle.service_combine.specs.Meaning.{OrRefused}
