@@ -38,6 +38,34 @@ fn said(alloc: Global, words: &[&str]) -> Result<Vec<Octets>, AllocError> {
     Ok(list)
 }
 
+fn source_of(alloc: Global, script: &[u8], read: u64) -> Result<MemorySource, AllocError> {
+    let script = Octets::of(alloc, script)?;
+    Ok(MemorySource::new(script, vec![in alloc; read]?))
+}
+
+fn sink_of(alloc: Global, room: usize, write: u64) -> Result<MemorySink, AllocError> {
+    MemorySink::new(alloc, room, vec![in alloc; write]?)
+}
+
+// The status of a run that had enough memory, and what the sink got.
+fn told(alloc: Global, status: u8, got: &[u8]) -> Result<(u8, Octets), AllocError> {
+    if status == 7 || got.starts_with(b"out of mem".as_slice()) {
+        return Err(AllocError);
+    }
+    Ok((status, Octets::of(alloc, got)?))
+}
+
+fn status_of<Ho: Host>(
+    rt: &Ho,
+    alloc: Global,
+    words: &[&str],
+    source: &mut MemorySource,
+    sink: &mut MemorySink,
+) -> Result<u8, AllocError> {
+    let said = said(alloc, words)?;
+    Ok(run(rt, alloc, &said, source, sink))
+}
+
 // The status of a run, and what the sink got.
 fn replayed<Ho: Host>(
     rt: &Ho,
@@ -46,14 +74,10 @@ fn replayed<Ho: Host>(
     faults: Faults,
 ) -> Result<(u8, Octets), AllocError> {
     let alloc = rt.alloc();
-    let said = said(alloc, words)?;
-    let mut source = MemorySource::new(Octets::of(alloc, script)?, vec![in alloc; faults.read]?);
-    let mut sink = MemorySink::new(alloc, faults.room, vec![in alloc; faults.write]?)?;
-    let status = run(rt, alloc, &said, &mut source, &mut sink);
-    if status == 7 || sink.got().starts_with(b"out of mem".as_slice()) {
-        return Err(AllocError);
-    }
-    Ok((status, Octets::of(alloc, sink.got())?))
+    let mut source = source_of(alloc, script, faults.read)?;
+    let mut sink = sink_of(alloc, faults.room, faults.write)?;
+    let status = status_of(rt, alloc, words, &mut source, &mut sink)?;
+    told(alloc, status, sink.got())
 }
 
 // Whether a run of these words ends with the status and the text.

@@ -1,17 +1,21 @@
 //! What a script is read as.
 use cors_answer::Cors;
-use script::{PlainText, Reading, ScriptRule, build_policy, read_script};
+use script::{Connection, PlainText, Reading, Script, ScriptRule, build_policy, read_script};
 use service_core::Peer;
 use std::alloc::{AllocError, Global};
 use std::test::Fail;
 
 // Whether a script is good, has a listener or has none, as told, and has no connection.
-fn asks_for_a_listener(alloc: Global, text: &str, listening: bool) -> Result<bool, AllocError> {
-    let reading = read_script(alloc, text.as_bytes())?;
-    match &reading {
-        Reading::Good(script) => Ok(script.listening == listening && script.connection.is_none()),
-        Reading::BadLine(_) => Ok(false),
+fn has_only_a_listener(reading: &Reading, listening: bool) -> bool {
+    match reading {
+        Reading::Good(script) => script.listening == listening && script.connection.is_none(),
+        Reading::BadLine(_) => false,
     }
+}
+
+// The same of a text.
+fn asks_for_a_listener(alloc: Global, text: &str, listening: bool) -> Result<bool, AllocError> {
+    Ok(has_only_a_listener(&read_script(alloc, text.as_bytes())?, listening))
 }
 
 #[test]
@@ -23,16 +27,27 @@ fn a_script_asks_for_a_listener(rt: HostRuntime) -> Result<(), Fail> {
     Ok(())
 }
 
+fn gives(connection: &Connection, peer: Peer, bytes: &[u8]) -> bool {
+    connection.peer == peer && connection.held.as_bytes() == bytes
+}
+
+fn has_connection(script: &Script, peer: Peer, bytes: &[u8]) -> bool {
+    match &script.connection {
+        Some(connection) => gives(connection, peer, bytes),
+        None => false,
+    }
+}
+
+fn is_of_connection(reading: &Reading, peer: Peer, bytes: &[u8]) -> bool {
+    match reading {
+        Reading::Good(script) => has_connection(script, peer, bytes),
+        Reading::BadLine(_) => false,
+    }
+}
+
 // Whether a script has a connection of this peer that gives these bytes.
 fn connects(alloc: Global, text: &[u8], peer: Peer, bytes: &[u8]) -> Result<bool, AllocError> {
-    let reading = read_script(alloc, text)?;
-    let Reading::Good(script) = &reading else {
-        return Ok(false);
-    };
-    match &script.connection {
-        Some(connection) => Ok(connection.peer == peer && connection.held.as_bytes() == bytes),
-        None => Ok(false),
-    }
+    Ok(is_of_connection(&read_script(alloc, text)?, peer, bytes))
 }
 
 #[test]
@@ -115,16 +130,26 @@ fn policy_of(alloc: Global, text: &str) -> Result<Cors<ScriptRule>, AllocError> 
     }
 }
 
+fn equals(one: &Cors<ScriptRule>, other: &Cors<ScriptRule>) -> bool {
+    *one == *other
+}
+
+fn has_policy_of(alloc: Global, one: &Cors<ScriptRule>, other: &str) -> Result<bool, AllocError> {
+    Ok(equals(one, &policy_of(alloc, other)?))
+}
+
 // Whether two scripts have one policy.
 fn have_one_policy(alloc: Global, one: &str, other: &str) -> Result<bool, AllocError> {
-    let one = policy_of(alloc, one)?;
-    let other = policy_of(alloc, other)?;
-    Ok(one == other)
+    has_policy_of(alloc, &policy_of(alloc, one)?, other)
+}
+
+fn has_no_error(cors: &Cors<ScriptRule>) -> bool {
+    cors.error().is_none()
 }
 
 // Whether the policy of a script is without an error.
 fn is_sound(alloc: Global, text: &str) -> Result<bool, AllocError> {
-    Ok(policy_of(alloc, text)?.error().is_none())
+    Ok(has_no_error(&policy_of(alloc, text)?))
 }
 
 const TWO: &str = "origin https://b.example\norigin https://a.example\n";

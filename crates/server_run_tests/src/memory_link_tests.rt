@@ -60,29 +60,40 @@ fn in_pieces(alloc: Global) -> Result<MemoryLink, AllocError> {
     Ok(MemoryLink::new(alloc, 7, Peer::Local, reads, Vec::new(alloc)))
 }
 
+// Whether the link gives `hello` in two pieces, and then waits.
+fn gives_hello<L: Link>(task: &MockTask, link: &mut L) -> bool {
+    reads(task, link, Poll::Ready(Ok(3)), b"hel")
+        && reads(task, link, Poll::Ready(Ok(2)), b"lo\0")
+        && reads(task, link, Poll::Pending, b"\0\0\0")
+        && task.is_woken()
+}
+
+// Whether the link gives `you`, and then fails.
+fn gives_you_and_fails<L: Link>(task: &MockTask, link: &mut L) -> bool {
+    let failed = Poll::Ready(Err(LinkFault::Failed));
+    reads(task, link, Poll::Ready(Ok(3)), b"you") && reads(task, link, failed, b"\0\0\0")
+}
+
+// Whether the link gives one byte more, and then its end.
+fn gives_a_byte_and_ends<L: Link>(task: &MockTask, link: &mut L) -> bool {
+    reads(task, link, Poll::Ready(Ok(1)), b"!\0\0")
+        && reads(task, link, Poll::Ready(Ok(0)), b"\0\0\0")
+        && reads(task, link, Poll::Ready(Ok(0)), b"\0\0\0")
+}
+
+// Whether the link is named so, of a local peer, and nothing is written.
+fn is_only_read(link: &MemoryLink, name: u64) -> bool {
+    link.name() == name && link.peer() == Peer::Local && link.written().is_empty()
+}
+
 #[test]
 fn a_link_gives_its_bytes_in_pieces(rt: HostRuntime) -> Result<(), Fail> {
     let task = MockTask::new(&rt)?;
     let mut link = in_pieces(rt.alloc())?;
-    assert!(rt; reads(&task, &mut link, Poll::Ready(Ok(3)), b"hel"));
-    assert!(rt; reads(&task, &mut link, Poll::Ready(Ok(2)), b"lo\0"));
-    assert!(rt; reads(&task, &mut link, Poll::Pending, b"\0\0\0"));
-    assert!(rt; task.is_woken());
-    assert!(rt; reads(&task, &mut link, Poll::Ready(Ok(3)), b"you"));
-    assert!(rt;
-        reads(
-            &task,
-            &mut link,
-            Poll::Ready(Err(LinkFault::Failed)),
-            b"\0\0\0"
-        )
-    );
-    assert!(rt; reads(&task, &mut link, Poll::Ready(Ok(1)), b"!\0\0"));
-    assert!(rt; reads(&task, &mut link, Poll::Ready(Ok(0)), b"\0\0\0"));
-    assert!(rt; reads(&task, &mut link, Poll::Ready(Ok(0)), b"\0\0\0"));
-    assert!(rt; link.name() == 7);
-    assert!(rt; link.peer() == Peer::Local);
-    assert!(rt; link.written().is_empty());
+    assert!(rt; gives_hello(&task, &mut link));
+    assert!(rt; gives_you_and_fails(&task, &mut link));
+    assert!(rt; gives_a_byte_and_ends(&task, &mut link));
+    assert!(rt; is_only_read(&link, 7));
     Ok(())
 }
 
@@ -111,17 +122,31 @@ fn takes_two(alloc: Global) -> Result<MemoryLink, AllocError> {
     Ok(MemoryLink::new(alloc, 9, Peer::Local, Vec::new(alloc), writes))
 }
 
+// Whether two bytes of a write are taken and kept, and the next write waits.
+fn keeps_two(task: &MockTask, link: &mut MemoryLink) -> Result<bool, AllocError> {
+    Ok(
+        writes(task, link, Poll::Ready(Ok(2)))?
+            && link.written() == b"he".as_slice()
+            && writes(task, link, Poll::Pending)?
+            && task.is_woken(),
+    )
+}
+
+// Whether a write fails and changes nothing, and the next one is taken whole.
+fn fails_and_keeps_all(task: &MockTask, link: &mut MemoryLink) -> Result<bool, AllocError> {
+    Ok(
+        writes(task, link, Poll::Ready(Err(LinkFault::Failed)))?
+            && link.written() == b"he".as_slice()
+            && writes(task, link, Poll::Ready(Ok(5)))?
+            && link.written() == b"hehello".as_slice(),
+    )
+}
+
 #[test]
 fn a_link_keeps_what_is_written(rt: HostRuntime) -> Result<(), Fail> {
     let task = MockTask::new(&rt)?;
     let mut link = takes_two(rt.alloc())?;
-    assert!(rt; writes(&task, &mut link, Poll::Ready(Ok(2)))?);
-    assert!(rt; link.written() == b"he".as_slice());
-    assert!(rt; writes(&task, &mut link, Poll::Pending)?);
-    assert!(rt; task.is_woken());
-    assert!(rt; writes(&task, &mut link, Poll::Ready(Err(LinkFault::Failed)))?);
-    assert!(rt; link.written() == b"he".as_slice());
-    assert!(rt; writes(&task, &mut link, Poll::Ready(Ok(5)))?);
-    assert!(rt; link.written() == b"hehello".as_slice());
+    assert!(rt; keeps_two(&task, &mut link)?);
+    assert!(rt; fails_and_keeps_all(&task, &mut link)?);
     Ok(())
 }

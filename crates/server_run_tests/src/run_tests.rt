@@ -39,19 +39,24 @@ fn are_two(entries: &[Entry<MemoryLink>], first: Told, second: Told) -> bool {
     }
 }
 
-// Whether the listener answers in this word, with a link of this name where it gives one.
-fn answers<Li: Listener<Link = MemoryLink>>(
-    listener: &mut Li,
-    name: Option<u64>,
-    word: &str,
-) -> bool {
-    match listener.accept() {
+// Whether this is told by the word, with a link of this name where there is one.
+fn is_answer(accepted: &Accepted<MemoryLink>, name: Option<u64>, word: &str) -> bool {
+    match accepted {
         Accepted::Got(link) => name == Some(link.name()) && word == "got",
         Accepted::NotYet => name.is_none() && word == "not yet",
         Accepted::Skipped => name.is_none() && word == "skipped",
         Accepted::Failed => name.is_none() && word == "failed",
         Accepted::Ended => name.is_none() && word == "ended",
     }
+}
+
+// Whether the listener answers in this word, with a link of this name where it gives one.
+fn answers<Li: Listener<Link = MemoryLink>>(
+    listener: &mut Li,
+    name: Option<u64>,
+    word: &str,
+) -> bool {
+    is_answer(&listener.accept(), name, word)
 }
 
 // Hands over two entries.
