@@ -1,9 +1,7 @@
 //! Services that are built of any parts, and asked.
-ghost use Rattle.std.specs.Prelude.{IfOk};
-
 use crate::questions::{Question, all_hold};
 use futures::test::MockTask;
-use service_combine::{Map, ServiceExt, pipeline};
+use service_combine::{ServiceExt, pipeline};
 use service_core::{NoMemory, Service};
 use std::alloc::{AllocError, Global};
 
@@ -11,7 +9,8 @@ use std::alloc::{AllocError, Global};
 pub(crate) fn mapped<S, F, Req, R>(
     task: &MockTask,
     alloc: Global,
-    parts: (S, F),
+    service: S,
+    f: F,
     questions: &[Question<Req, R, S::Error>],
 ) -> Result<bool, AllocError>
 where
@@ -19,10 +18,9 @@ where
     F: Fn(S::Response) -> R + Drop,
     Req: Copy,
     R: PartialEq + Drop,
-    requires service { S.can_call parts.0 }
-    requires f { F.IsAlwaysCallable parts.1 }
+    requires service { S.can_call service }
+    requires f { F.IsAlwaysCallable f }
 {
-    let (service, f) = parts;
     let mapped = service.map(alloc, f)?;
     all_hold(task, alloc, &mapped, questions)
 }
@@ -31,7 +29,8 @@ where
 pub(crate) fn renamed<S, F, Req, E>(
     task: &MockTask,
     alloc: Global,
-    parts: (S, F),
+    service: S,
+    f: F,
     questions: &[Question<Req, S::Response, E>],
 ) -> Result<bool, AllocError>
 where
@@ -39,10 +38,9 @@ where
     F: Fn(S::Error) -> E + Drop,
     Req: Copy,
     E: PartialEq + NoMemory,
-    requires service { S.can_call parts.0 }
-    requires f { F.IsAlwaysCallable parts.1 }
+    requires service { S.can_call service }
+    requires f { F.IsAlwaysCallable f }
 {
-    let (service, f) = parts;
     let renamed = service.map_err(alloc, f)?;
     all_hold(task, alloc, &renamed, questions)
 }
@@ -51,17 +49,17 @@ where
 pub(crate) fn chained<A, B, Req>(
     task: &MockTask,
     alloc: Global,
-    parts: (A, B),
+    first: A,
+    second: B,
     questions: &[Question<Req, B::Response, A::Error>],
 ) -> Result<bool, AllocError>
 where
     A: Service<Req, Error: PartialEq + NoMemory> + Drop,
     B: Service<A::Response, Response: PartialEq + Drop, Error = A::Error> + Drop,
     Req: Copy,
-    requires first { A.can_call parts.0 }
-    requires second { B.can_call parts.1 }
+    requires first { A.can_call first }
+    requires second { B.can_call second }
 {
-    let (first, second) = parts;
     let both = first.and_then(alloc, second)?;
     all_hold(task, alloc, &both, questions)
 }
@@ -70,7 +68,9 @@ where
 pub(crate) fn to_the_left<A, B, C, Req>(
     task: &MockTask,
     alloc: Global,
-    parts: (A, B, C),
+    first: A,
+    second: B,
+    third: C,
     questions: &[Question<Req, C::Response, A::Error>],
 ) -> Result<bool, AllocError>
 where
@@ -78,20 +78,21 @@ where
     B: Service<A::Response, Error = A::Error> + Drop,
     C: Service<B::Response, Response: PartialEq + Drop, Error = A::Error> + Drop,
     Req: Copy,
-    requires first { A.can_call parts.0 }
-    requires second { B.can_call parts.1 }
-    requires third { C.can_call parts.2 }
+    requires first { A.can_call first }
+    requires second { B.can_call second }
+    requires third { C.can_call third }
 {
-    let (first, second, third) = parts;
     let front = first.and_then(alloc, second)?;
-    chained(task, alloc, (front, third), questions)
+    chained(task, alloc, front, third, questions)
 }
 
 /// Whether three services answer so, bracketed to the right.
 pub(crate) fn to_the_right<A, B, C, Req>(
     task: &MockTask,
     alloc: Global,
-    parts: (A, B, C),
+    first: A,
+    second: B,
+    third: C,
     questions: &[Question<Req, C::Response, A::Error>],
 ) -> Result<bool, AllocError>
 where
@@ -99,83 +100,29 @@ where
     B: Service<A::Response, Error = A::Error> + Drop,
     C: Service<B::Response, Response: PartialEq + Drop, Error = A::Error> + Drop,
     Req: Copy,
-    requires first { A.can_call parts.0 }
-    requires second { B.can_call parts.1 }
-    requires third { C.can_call parts.2 }
+    requires first { A.can_call first }
+    requires second { B.can_call second }
+    requires third { C.can_call third }
 {
-    let (first, second, third) = parts;
     let back = second.and_then(alloc, third)?;
-    chained(task, alloc, (first, back), questions)
+    chained(task, alloc, first, back, questions)
 }
 
 /// Whether two services answer so, each result of the first handed to the second.
 pub(crate) fn handed<A, B, Req>(
     task: &MockTask,
     alloc: Global,
-    parts: (A, B),
+    first: A,
+    second: B,
     questions: &[Question<Req, B::Response, A::Error>],
 ) -> Result<bool, AllocError>
 where
     A: Service<Req, Response: Drop, Error: PartialEq + NoMemory> + Drop,
     B: Service<Result<A::Response, A::Error>, Response: PartialEq + Drop, Error = A::Error> + Drop,
     Req: Copy,
-    requires first { A.can_call parts.0 }
-    requires second { B.can_call parts.1 }
+    requires first { A.can_call first }
+    requires second { B.can_call second }
 {
-    let (first, second) = parts;
     let both = pipeline(first).then(alloc, second)?;
     all_hold(task, alloc, &both, questions)
-}
-
-/// A service under three maps.
-pub(crate) type Thrice<S, F> = Map<Map<Map<S, F, u32, u32>, F, u32, u32>, F, u32, u32>;
-
-// Puts a service under the same map three times.
-fn thrice<S, F>(alloc: Global, service: S, f: F) -> Result<Thrice<S, F>, AllocError>
-where
-    S: Service<u32, Response = u32, Error: NoMemory> + Drop,
-    F: Fn(u32) -> u32 + Copy + Drop,
-    requires service { S.can_call service }
-    requires f { F.IsAlwaysCallable f }
-    ensures { IfOk result ⟦<Thrice<S, F> as Service<u32>>⟧.can_call }
-{
-    service.map(alloc, f)?.map(alloc, f)?.map(alloc, f)
-}
-
-// Whether a service answers so under six maps.
-fn through_six<S, F>(
-    task: &MockTask,
-    alloc: Global,
-    parts: (S, F),
-    questions: &[Question<u32, u32, S::Error>],
-) -> Result<bool, AllocError>
-where
-    S: Service<u32, Response = u32, Error: PartialEq + NoMemory> + Drop,
-    F: Fn(u32) -> u32 + Copy + Drop,
-    requires service { S.can_call parts.0 }
-    requires f { F.IsAlwaysCallable parts.1 }
-{
-    let (service, f) = parts;
-    let three = thrice(alloc, service, f)?;
-    let six = thrice(alloc, three, f)?;
-    all_hold(task, alloc, &six, questions)
-}
-
-/// Whether a service answers so under twelve maps.
-pub(crate) fn through_twelve<S, F>(
-    task: &MockTask,
-    alloc: Global,
-    parts: (S, F),
-    questions: &[Question<u32, u32, S::Error>],
-) -> Result<bool, AllocError>
-where
-    S: Service<u32, Response = u32, Error: PartialEq + NoMemory> + Drop,
-    F: Fn(u32) -> u32 + Copy + Drop,
-    requires service { S.can_call parts.0 }
-    requires f { F.IsAlwaysCallable parts.1 }
-{
-    let (service, f) = parts;
-    let three = thrice(alloc, service, f)?;
-    let six = thrice(alloc, three, f)?;
-    through_six(task, alloc, (six, f), questions)
 }

@@ -1,26 +1,27 @@
 //! Copies answer as their originals.
-ghost use Rattle.std.specs.Prelude.{◌≡◌};
-
 use crate::copies::{begun, chained, handed};
-use crate::dividers::Dividing;
+use crate::numbers::{Dividing, Mending};
 use crate::questions::{Question, all_hold};
-use crate::services::{Echo, Summing, Tagging, Word};
-use futures::Future;
-use futures::task::Poll;
+use crate::service_tests::quarters;
+use crate::services::Fault;
 use futures::test::MockTask;
-use service_combine::{Apply, ServiceExt, apply_fn};
-use service_core::{Ready, ok};
-use std::alloc::AllocError;
+use service_combine::ServiceExt;
+use std::alloc::{AllocError, Global};
 use std::test::Fail;
 
 #[test]
 fn a_clone_answers_as_its_original(rt: HostRuntime) -> Result<(), Fail> {
     let task = MockTask::new(&rt)?;
     let alloc = rt.alloc();
-    let asked = [Question::Answers(7u32, Poll::Ready(Ok((7, Word::Srv2))))];
-    assert!(rt; chained(&task, alloc, (Echo, Tagging { tag: Word::Srv2 }), &asked)?);
-    let asked = [Question::Answers(Word::Srv1, Poll::Ready(Ok((Word::Srv1, Word::Fine))))];
-    assert!(rt; handed(&task, alloc, (Echo, Summing), &asked)?);
+    let (halving, third) = (Dividing { by: 2 }, Dividing { by: 3 });
+    let asked = [Question::Answers(42, Ok(7))];
+    assert!(rt; chained(&task, alloc, halving, third, &asked)?);
+    let mending = Mending {
+        error: Fault::Bad,
+        with: 7,
+    };
+    let asked = [Question::Answers(42, Ok(21))];
+    assert!(rt; handed(&task, alloc, halving, mending, &asked)?);
     Ok(())
 }
 
@@ -30,45 +31,47 @@ fn half(number: u32) -> u32 {
 }
 
 // An error as it is.
-fn same(error: AllocError) -> AllocError {
-    error
+fn same(fault: Fault) -> Fault {
+    fault
+}
+
+// Whether a copy of a service whose responses are halved answers so.
+fn copy_halves(
+    task: &MockTask,
+    alloc: Global,
+    questions: &[Question<u32, u32, Fault>],
+) -> Result<bool, AllocError> {
+    let mapped = ServiceExt::map(Dividing { by: 1 }, alloc, half)?;
+    let copy = mapped.clone()?;
+    all_hold(task, alloc, &copy, questions)
+}
+
+// Whether a copy of a service whose errors are changed answers so.
+fn copy_is_renamed(
+    task: &MockTask,
+    alloc: Global,
+    questions: &[Question<u32, u32, Fault>],
+) -> Result<bool, AllocError> {
+    let renamed = ServiceExt::map_err(Dividing { by: 1 }, alloc, same)?;
+    let copy = renamed.clone()?;
+    all_hold(task, alloc, &copy, questions)
 }
 
 #[test]
 fn copies_of_changed_services_answer_as_their_originals(rt: HostRuntime) -> Result<(), Fail> {
     let task = MockTask::new(&rt)?;
     let alloc = rt.alloc();
-    let echo = Dividing { by: 1 };
-    let asked = [Question::Answers(8, Poll::Ready(Ok(4)))];
-    let mapped = ServiceExt::map(echo, alloc, half)?;
-    let copy = mapped.clone()?;
-    assert!(rt; all_hold(&task, alloc, &copy, &asked)?);
-    let asked = [Question::Answers(8, Poll::Ready(Ok(8)))];
-    let renamed = ServiceExt::map_err(echo, alloc, same)?;
-    let copy = renamed.clone()?;
-    assert!(rt; all_hold(&task, alloc, &copy, &asked)?);
-    assert!(rt; begun(&task, alloc, echo, &asked)?);
+    assert!(rt; copy_halves(&task, alloc, &[Question::Answers(8, Ok(4))])?);
+    let asked = [Question::Answers(8, Ok(8))];
+    assert!(rt; copy_is_renamed(&task, alloc, &asked)?);
+    assert!(rt; begun(&task, alloc, Dividing { by: 1 }, &asked)?);
     Ok(())
-}
-
-// Answers a quarter of a number.
-fn quarter(number: u32, _: &Dividing) -> Ready<Result<u32, AllocError>>
-    ensures { ⟦<Ready<Result<u32, AllocError>> as Future>⟧.can_poll result }
-{
-    ok(number / 4)
 }
 
 #[test]
 fn a_copy_of_apply_answers_as_its_original(rt: HostRuntime) -> Result<(), Fail> {
     let task = MockTask::new(&rt)?;
-    let alloc = rt.alloc();
-    let wrapped: Apply<_, _, u32, u32, u32, AllocError> = apply_fn(
-        alloc,
-        Dividing { by: 1 },
-        quarter,
-    )?;
-    let copy = wrapped.clone()?;
-    let asked = [Question::Answers(8, Poll::Ready(Ok(2)))];
-    assert!(rt; all_hold(&task, alloc, &copy, &asked)?);
+    let asked = [Question::Answers(8, Ok(2))];
+    assert!(rt; quarters(&task, rt.alloc(), &asked)?);
     Ok(())
 }

@@ -26,17 +26,17 @@ where
 pub(crate) fn chained<A, B, Req>(
     task: &MockTask,
     alloc: Global,
-    parts: (A, B),
+    first: A,
+    second: B,
     questions: &[Question<Req, B::Response, A::Error>],
 ) -> Result<bool, AllocError>
 where
     A: Service<Req, Error: PartialEq + NoMemory> + Drop,
     B: Service<A::Response, Response: PartialEq + Drop, Error = A::Error> + Drop,
     Req: Copy,
-    requires first { A.can_call parts.0 }
-    requires second { B.can_call parts.1 }
+    requires first { A.can_call first }
+    requires second { B.can_call second }
 {
-    let (first, second) = parts;
     let both = first.and_then(alloc, second)?;
     let copy = both.clone()?;
     drop(both);
@@ -47,17 +47,17 @@ where
 pub(crate) fn handed<A, B, Req>(
     task: &MockTask,
     alloc: Global,
-    parts: (A, B),
+    first: A,
+    second: B,
     questions: &[Question<Req, B::Response, A::Error>],
 ) -> Result<bool, AllocError>
 where
     A: Service<Req, Response: Drop, Error: PartialEq + NoMemory> + Drop,
     B: Service<Result<A::Response, A::Error>, Response: PartialEq + Drop, Error = A::Error> + Drop,
     Req: Copy,
-    requires first { A.can_call parts.0 }
-    requires second { B.can_call parts.1 }
+    requires first { A.can_call first }
+    requires second { B.can_call second }
 {
-    let (first, second) = parts;
     let both = pipeline(first).then(alloc, second)?;
     let copy = both.clone()?;
     drop(both);

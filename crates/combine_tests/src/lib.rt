@@ -1,4 +1,5 @@
-//! Tests of services, of their combinators and of what makes and wraps them, over public calls.
+//! Tests of the combinators of services, and small programs over services, as authors of frameworks and of gateways write
+//! them.
 #![tactic(auto)]
 
 #[cfg(test)]
@@ -10,13 +11,9 @@ mod copies;
 #[cfg(test)]
 mod core_tests;
 #[cfg(test)]
-mod dividers;
-#[cfg(test)]
 mod law_tests;
 #[cfg(test)]
-mod making_tests;
-#[cfg(test)]
-mod makings;
+mod numbers;
 #[cfg(test)]
 mod pipeline_tests;
 #[cfg(test)]
@@ -24,8 +21,10 @@ mod pipelines;
 #[cfg(test)]
 mod questions;
 #[cfg(test)]
+mod service_programs;
+#[cfg(test)]
 mod service_tests;
 #[cfg(test)]
 mod services;
 #[cfg(test)]
-mod transforms;
+mod through;

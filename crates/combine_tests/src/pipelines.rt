@@ -9,17 +9,17 @@ use std::alloc::{AllocError, Global};
 pub(crate) fn chained<A, B, Req>(
     task: &MockTask,
     alloc: Global,
-    parts: (A, B),
+    first: A,
+    second: B,
     questions: &[Question<Req, B::Response, A::Error>],
 ) -> Result<bool, AllocError>
 where
     A: Service<Req, Error: PartialEq + NoMemory> + Drop,
     B: Service<A::Response, Response: PartialEq + Drop, Error = A::Error> + Drop,
     Req: Copy,
-    requires first { A.can_call parts.0 }
-    requires second { B.can_call parts.1 }
+    requires first { A.can_call first }
+    requires second { B.can_call second }
 {
-    let (first, second) = parts;
     let both = pipeline(first).and_then(alloc, second)?;
     all_hold(task, alloc, &both, questions)
 }

@@ -1,15 +1,15 @@
 //! What the combinators of services answer.
 ghost use Rattle.std.specs.Prelude.{◌≡◌};
 
-use crate::builds::{chained, handed, mapped, renamed, through_twelve};
+use crate::builds::{chained, handed, mapped, renamed};
 use crate::questions::{Question, all_hold, is};
 use crate::services::{
     Awaking, Counting, Echo, Failure, Fault, Faulty, Obeying, Slow, Summing, Tagging, Tally,
     Unready, Word,
 };
-use futures::task::Poll;
+use crate::through::{Through, Twelve, tripled};
+use futures::Future;
 use futures::test::MockTask;
-use futures::{Future, TryFutureExt};
 use service_combine::{
     AndThenServiceResponse, Apply, MapErrFuture, MapFuture, ThenServiceResponse, apply_fn,
 };
@@ -32,11 +32,11 @@ fn failure(_: Fault) -> Failure {
 fn map_changes_each_response(rt: HostRuntime) -> Result<(), Fail> {
     let task = MockTask::new(&rt)?;
     let asked = [
-        Question::Answers((), Poll::Ready(Ok("ok"))),
-        Question::Answers((), Poll::Ready(Ok("ok"))),
-        Question::IsReady(Poll::Ready(Ok(()))),
+        Question::Answers((), Ok("ok")),
+        Question::Answers((), Ok("ok")),
+        Question::IsReady(Ok(())),
     ];
-    assert!(rt; mapped(&task, rt.alloc(), (Echo, fine), &asked)?);
+    assert!(rt; mapped(&task, rt.alloc(), Echo, fine, &asked)?);
     Ok(())
 }
 
@@ -44,14 +44,15 @@ fn map_changes_each_response(rt: HostRuntime) -> Result<(), Fail> {
 fn map_leaves_errors_as_they_are(rt: HostRuntime) -> Result<(), Fail> {
     let task = MockTask::new(&rt)?;
     let asked = [
-        Question::Answers((), Poll::Ready(Err(Fault::Bad))),
-        Question::IsReady(Poll::Ready(Err(Fault::Bad))),
+        Question::Answers((), Err(Fault::Bad)),
+        Question::IsReady(Err(Fault::Bad)),
     ];
     assert!(rt;
         mapped(
             &task,
             rt.alloc(),
-            (Faulty { fault: Fault::Bad }, fine),
+            Faulty { fault: Fault::Bad },
+            fine,
             &asked
         )?
     );
@@ -62,14 +63,15 @@ fn map_leaves_errors_as_they_are(rt: HostRuntime) -> Result<(), Fail> {
 fn map_err_changes_the_errors_of_calls_and_of_readiness(rt: HostRuntime) -> Result<(), Fail> {
     let task = MockTask::new(&rt)?;
     let asked = [
-        Question::Answers((), Poll::Ready(Err(Failure::Mapped))),
-        Question::IsReady(Poll::Ready(Err(Failure::Mapped))),
+        Question::Answers((), Err(Failure::Mapped)),
+        Question::IsReady(Err(Failure::Mapped)),
     ];
     assert!(rt;
         renamed(
             &task,
             rt.alloc(),
-            (Faulty { fault: Fault::Bad }, failure),
+            Faulty { fault: Fault::Bad },
+            failure,
             &asked
         )?
     );
@@ -79,11 +81,8 @@ fn map_err_changes_the_errors_of_calls_and_of_readiness(rt: HostRuntime) -> Resu
 #[test]
 fn map_err_leaves_responses_as_they_are(rt: HostRuntime) -> Result<(), Fail> {
     let task = MockTask::new(&rt)?;
-    let asked = [
-        Question::Answers(7u32, Poll::Ready(Ok(7))),
-        Question::IsReady(Poll::Ready(Ok(()))),
-    ];
-    assert!(rt; renamed(&task, rt.alloc(), (Echo, failure), &asked)?);
+    let asked = [Question::Answers(7u32, Ok(7)), Question::IsReady(Ok(()))];
+    assert!(rt; renamed(&task, rt.alloc(), Echo, failure, &asked)?);
     Ok(())
 }
 
@@ -94,12 +93,12 @@ fn and_then_hands_each_response_to_the_second(rt: HostRuntime) -> Result<(), Fai
     let first = Counting::over(Echo, &one);
     let second = Counting::over(Tagging { tag: Word::Srv2 }, &two);
     let asked = [
-        Question::Answers(Word::Srv1, Poll::Ready(Ok((Word::Srv1, Word::Srv2)))),
-        Question::IsReady(Poll::Ready(Ok(()))),
+        Question::Answers(Word::Srv1, Ok((Word::Srv1, Word::Srv2))),
+        Question::IsReady(Ok(())),
     ];
-    assert!(rt; chained(&task, rt.alloc(), (first, second), &asked)?);
-    assert_eq!(rt; one.polls.get(), 1);
-    assert_eq!(rt; two.polls.get(), 1);
+    assert!(rt; chained(&task, rt.alloc(), first, second, &asked)?);
+    assert!(rt; one.polls.get() == 1);
+    assert!(rt; two.polls.get() == 1);
     Ok(())
 }
 
@@ -107,10 +106,11 @@ fn and_then_hands_each_response_to_the_second(rt: HostRuntime) -> Result<(), Fai
 fn and_then_does_not_call_the_second_after_an_error(rt: HostRuntime) -> Result<(), Fail> {
     let task = MockTask::new(&rt)?;
     let tally = Tally::new();
-    let parts = (Faulty { fault: Fault::Bad }, Counting::over(Echo, &tally));
-    let asked = [Question::Answers(7u32, Poll::Ready(Err(Fault::Bad)))];
-    assert!(rt; chained(&task, rt.alloc(), parts, &asked)?);
-    assert_eq!(rt; tally.calls.get(), 0);
+    let first = Faulty { fault: Fault::Bad };
+    let second = Counting::over(Echo, &tally);
+    let asked = [Question::Answers(7u32, Err(Fault::Bad))];
+    assert!(rt; chained(&task, rt.alloc(), first, second, &asked)?);
+    assert!(rt; tally.calls.get() == 0);
     Ok(())
 }
 
@@ -121,27 +121,31 @@ fn and_then_answers_an_error_of_the_second(rt: HostRuntime) -> Result<(), Fail> 
         fault: Fault::Worse,
     };
     let asked = [
-        Question::Answers(7u32, Poll::Ready(Err(Fault::Worse))),
-        Question::IsReady(Poll::Ready(Err(Fault::Worse))),
+        Question::Answers(7u32, Err(Fault::Worse)),
+        Question::IsReady(Err(Fault::Worse)),
     ];
-    assert!(rt; chained(&task, rt.alloc(), (Echo, second), &asked)?);
+    assert!(rt; chained(&task, rt.alloc(), Echo, second, &asked)?);
     Ok(())
+}
+
+/// Whether the second gets each result of the first, and each is asked once whether it is ready.
+pub(crate) fn hands_each_result(task: &MockTask, alloc: Global) -> Result<bool, AllocError> {
+    let (one, two) = (Tally::new(), Tally::new());
+    let first = Counting::over(Obeying, &one);
+    let second = Counting::over(Unready { service: Summing }, &two);
+    let asked = [
+        Question::Answers(Ok(Word::Srv1), Ok((Word::Srv1, Word::Fine))),
+        Question::Answers(Err(Fault::Bad), Ok((Word::Srv2, Word::Failed))),
+        Question::IsReady(Err(Fault::Bad)),
+    ];
+    let is_so = handed(task, alloc, first, second, &asked)?;
+    Ok(is_so && one.polls.get() == 1 && two.polls.get() == 1)
 }
 
 #[test]
 fn then_hands_each_result_to_the_second(rt: HostRuntime) -> Result<(), Fail> {
     let task = MockTask::new(&rt)?;
-    let (one, two) = (Tally::new(), Tally::new());
-    let first = Counting::over(Obeying, &one);
-    let second = Counting::over(Unready { service: Summing }, &two);
-    let asked = [
-        Question::Answers(Ok(Word::Srv1), Poll::Ready(Ok((Word::Srv1, Word::Fine)))),
-        Question::Answers(Err(Fault::Bad), Poll::Ready(Ok((Word::Srv2, Word::Failed)))),
-        Question::IsReady(Poll::Ready(Err(Fault::Bad))),
-    ];
-    assert!(rt; handed(&task, rt.alloc(), (first, second), &asked)?);
-    assert_eq!(rt; one.polls.get(), 1);
-    assert_eq!(rt; two.polls.get(), 1);
+    assert!(rt; hands_each_result(&task, rt.alloc())?);
     Ok(())
 }
 
@@ -157,10 +161,10 @@ fn waking() -> Awaking<Echo> {
 fn readiness_waits_for_the_first_where_the_second_is_ready(rt: HostRuntime) -> Result<(), Fail> {
     let task = MockTask::new(&rt)?;
     let asked: [Question<u32, u32, Fault>; 2] = [
-        Question::IsReady(Poll::Pending),
-        Question::IsReady(Poll::Ready(Ok(()))),
+        Question::ReadinessWaits,
+        Question::IsReady(Ok(())),
     ];
-    assert!(rt; chained(&task, rt.alloc(), (waking(), Echo), &asked)?);
+    assert!(rt; chained(&task, rt.alloc(), waking(), Echo, &asked)?);
     Ok(())
 }
 
@@ -168,10 +172,10 @@ fn readiness_waits_for_the_first_where_the_second_is_ready(rt: HostRuntime) -> R
 fn readiness_waits_for_the_second_where_the_first_is_ready(rt: HostRuntime) -> Result<(), Fail> {
     let task = MockTask::new(&rt)?;
     let asked: [Question<u32, u32, Fault>; 2] = [
-        Question::IsReady(Poll::Pending),
-        Question::IsReady(Poll::Ready(Ok(()))),
+        Question::ReadinessWaits,
+        Question::IsReady(Ok(())),
     ];
-    assert!(rt; chained(&task, rt.alloc(), (Echo, waking()), &asked)?);
+    assert!(rt; chained(&task, rt.alloc(), Echo, waking(), &asked)?);
     Ok(())
 }
 
@@ -183,10 +187,10 @@ fn the_first_error_goes_before_the_second(rt: HostRuntime) -> Result<(), Fail> {
         fault: Fault::Worse,
     };
     let asked = [
-        Question::IsReady(Poll::Ready(Err(Fault::Bad))),
-        Question::Answers(7u32, Poll::Ready(Err(Fault::Bad))),
+        Question::IsReady(Err(Fault::Bad)),
+        Question::Answers(7u32, Err(Fault::Bad)),
     ];
-    assert!(rt; chained(&task, rt.alloc(), (first, second), &asked)?);
+    assert!(rt; chained(&task, rt.alloc(), first, second, &asked)?);
     Ok(())
 }
 
@@ -196,8 +200,8 @@ fn the_second_error_comes_while_the_first_waits(rt: HostRuntime) -> Result<(), F
     let second = Faulty {
         fault: Fault::Worse,
     };
-    let asked: [Question<u32, u32, Fault>; 1] = [Question::IsReady(Poll::Ready(Err(Fault::Worse)))];
-    assert!(rt; chained(&task, rt.alloc(), (waking(), second), &asked)?);
+    let asked: [Question<u32, u32, Fault>; 1] = [Question::IsReady(Err(Fault::Worse))];
+    assert!(rt; chained(&task, rt.alloc(), waking(), second, &asked)?);
     Ok(())
 }
 
@@ -209,10 +213,10 @@ fn then_waits_for_the_first_and_errs_with_the_second(rt: HostRuntime) -> Result<
         waits: Cell::new(1),
     };
     let asked: [Question<u32, u32, Fault>; 2] = [
-        Question::IsReady(Poll::Pending),
-        Question::IsReady(Poll::Ready(Err(Fault::Bad))),
+        Question::ReadinessWaits,
+        Question::IsReady(Err(Fault::Bad)),
     ];
-    assert!(rt; handed(&task, rt.alloc(), (waking(), second), &asked)?);
+    assert!(rt; handed(&task, rt.alloc(), waking(), second, &asked)?);
     Ok(())
 }
 
@@ -224,12 +228,12 @@ fn readiness_is_forwarded_at_each_poll(rt: HostRuntime) -> Result<(), Fail> {
         waits: Cell::new(3),
     };
     let asked = [
-        Question::IsReady(Poll::Pending),
-        Question::IsReady(Poll::Pending),
-        Question::IsReady(Poll::Pending),
-        Question::IsReady(Poll::Ready(Ok(()))),
+        Question::ReadinessWaits,
+        Question::ReadinessWaits,
+        Question::ReadinessWaits,
+        Question::IsReady(Ok(())),
     ];
-    assert!(rt; mapped(&task, rt.alloc(), (service, fine), &asked)?);
+    assert!(rt; mapped(&task, rt.alloc(), service, fine, &asked)?);
     Ok(())
 }
 
@@ -245,19 +249,85 @@ fn slow<S>(waits: u32, service: S) -> Slow<S>
     Slow { service, waits }
 }
 
+/// Whether a service that halves answers so after some polls.
+fn halves(
+    task: &MockTask,
+    alloc: Global,
+    waits: u32,
+    questions: &[Question<u32, u32, Fault>],
+) -> Result<bool, AllocError> {
+    mapped(task, alloc, slow(waits, Echo), half, questions)
+}
+
+/// Whether a service that echoes, and has its errors changed, answers so after some polls.
+fn echoes(
+    task: &MockTask,
+    alloc: Global,
+    waits: u32,
+    questions: &[Question<u32, u32, Failure>],
+) -> Result<bool, AllocError> {
+    renamed(task, alloc, slow(waits, Echo), failure, questions)
+}
+
+/// Whether two services that echo answer so, one behind the other, each after some polls.
+fn echo_in_turn(
+    task: &MockTask,
+    alloc: Global,
+    waits: (u32, u32),
+    questions: &[Question<u32, u32, Fault>],
+) -> Result<bool, AllocError> {
+    chained(
+        task,
+        alloc,
+        slow(waits.0, Echo),
+        slow(waits.1, Echo),
+        questions,
+    )
+}
+
+/// Whether a service that obeys answers so behind one that echoes after some polls.
+fn obeys(
+    task: &MockTask,
+    alloc: Global,
+    waits: u32,
+    questions: &[Question<u32, u32, Fault>],
+) -> Result<bool, AllocError> {
+    handed(task, alloc, slow(waits, Echo), Obeying, questions)
+}
+
+/// Whether a service that errs after some polls, and has its errors changed, answers so.
+fn errs(
+    task: &MockTask,
+    alloc: Global,
+    waits: u32,
+    questions: &[Question<u32, u32, Failure>],
+) -> Result<bool, AllocError> {
+    let faulty = Faulty { fault: Fault::Bad };
+    renamed(task, alloc, slow(waits, faulty), failure, questions)
+}
+
+/// Whether a service that sums up answers so behind one that errs, each after a poll.
+fn sums_up(
+    task: &MockTask,
+    alloc: Global,
+    questions: &[Question<Word, (Word, Word), Fault>],
+) -> Result<bool, AllocError> {
+    let faulty = Faulty { fault: Fault::Bad };
+    handed(task, alloc, slow(1, faulty), slow(1, Summing), questions)
+}
+
 #[test]
 fn a_call_is_pending_while_a_part_waits(rt: HostRuntime) -> Result<(), Fail> {
     let task = MockTask::new(&rt)?;
     let alloc = rt.alloc();
-    let faulty = Faulty { fault: Fault::Bad };
-    let asked = [Question::AnswersThird(8u32, Poll::Ready(Ok(4)))];
-    assert!(rt; mapped(&task, alloc, (slow(2, Echo), half), &asked)?);
-    let asked = [Question::AnswersThird(8u32, Poll::Ready(Err(Failure::Mapped)))];
-    assert!(rt; renamed(&task, alloc, (slow(2, faulty), failure), &asked)?);
-    let asked = [Question::AnswersThird(8u32, Poll::Ready(Ok(8)))];
-    assert!(rt; chained(&task, alloc, (slow(1, Echo), slow(1, Echo)), &asked)?);
-    let asked = [Question::AnswersThird(Word::Srv, Poll::Ready(Ok((Word::Srv2, Word::Failed))))];
-    assert!(rt; handed(&task, alloc, (slow(1, faulty), slow(1, Summing)), &asked)?);
+    let asked = [Question::AnswersThird(8, Ok(4))];
+    assert!(rt; halves(&task, alloc, 2, &asked)?);
+    let asked = [Question::AnswersThird(8, Err(Failure::Mapped))];
+    assert!(rt; errs(&task, alloc, 2, &asked)?);
+    let asked = [Question::AnswersThird(8, Ok(8))];
+    assert!(rt; echo_in_turn(&task, alloc, (1, 1), &asked)?);
+    let asked = [Question::AnswersThird(Word::Srv, Ok((Word::Srv2, Word::Failed)))];
+    assert!(rt; sums_up(&task, alloc, &asked)?);
     Ok(())
 }
 
@@ -265,21 +335,17 @@ fn a_call_is_pending_while_a_part_waits(rt: HostRuntime) -> Result<(), Fail> {
 fn a_call_that_waits_can_be_dropped(rt: HostRuntime) -> Result<(), Fail> {
     let task = MockTask::new(&rt)?;
     let alloc = rt.alloc();
-    let asked = [Question::Waits(8u32)];
-    assert!(rt; mapped(&task, alloc, (slow(1, Echo), half), &asked)?);
-    let asked = [Question::Waits(8u32)];
-    assert!(rt; renamed(&task, alloc, (slow(1, Echo), failure), &asked)?);
-    let asked = [Question::Waits(8u32)];
-    assert!(rt; chained(&task, alloc, (Echo, slow(1, Echo)), &asked)?);
-    let asked = [Question::Waits(8u32)];
-    assert!(rt; handed(&task, alloc, (slow(1, Echo), Obeying), &asked)?);
-    let asked = [Question::Answers(8u32, Poll::Ready(Ok(8)))];
-    assert!(rt; all_hold(&task, alloc, &Echo, &asked)?);
+    assert!(rt; halves(&task, alloc, 1, &[Question::Waits(8)])?);
+    assert!(rt; echoes(&task, alloc, 1, &[Question::Waits(8)])?);
+    assert!(rt; echo_in_turn(&task, alloc, (0, 1), &[Question::Waits(8)])?);
+    assert!(rt; obeys(&task, alloc, 1, &[Question::Waits(8)])?);
+    let asked = [Question::Answers(8, Ok(4))];
+    assert!(rt; halves(&task, alloc, 0, &asked)?);
     Ok(())
 }
 
 /// Whether a future gives this at its first poll.
-fn gives<F, R, E>(task: &MockTask, future: F, want: Poll<Result<R, E>>) -> Result<bool, AllocError>
+fn gives<F, R, E>(task: &MockTask, future: F, want: Result<R, E>) -> Result<bool, AllocError>
 where
     F: Future<Output = Result<R, E>> + Drop,
     R: PartialEq + Drop,
@@ -294,20 +360,15 @@ where
 fn parts_that_cannot_be_shared_are_want_of_memory(rt: HostRuntime) -> Result<(), Fail> {
     let task = MockTask::new(&rt)?;
     let mapped: MapFuture<Ready<Result<u32, Fault>>, fn(u32) -> u32> = MapFuture::refused();
-    assert!(rt; gives(&task, mapped, Poll::Ready(Err(Fault::Memory)))?);
+    assert!(rt; gives(&task, mapped, Err(Fault::Memory))?);
     let renamed: MapErrFuture<Ready<Result<u32, Fault>>, fn(Fault) -> Failure> =
         MapErrFuture::refused();
-    assert!(rt; gives(&task, renamed, Poll::Ready(Err(Failure::NoRoom)))?);
+    assert!(rt; gives(&task, renamed, Err(Failure::NoRoom))?);
     let chained: AndThenServiceResponse<Echo, Echo, u32> = AndThenServiceResponse::refused();
-    assert!(rt; gives(&task, chained, Poll::Ready(Err(Fault::Memory)))?);
+    assert!(rt; gives(&task, chained, Err(Fault::Memory))?);
     let handed: ThenServiceResponse<Echo, Obeying, u32> = ThenServiceResponse::refused();
-    assert!(rt; gives(&task, handed, Poll::Ready(Err(Fault::Memory)))?);
+    assert!(rt; gives(&task, handed, Err(Fault::Memory))?);
     Ok(())
-}
-
-/// An error as it is.
-fn same(fault: Fault) -> Fault {
-    fault
 }
 
 /// Asks for a quarter of a number.
@@ -317,25 +378,31 @@ fn asks_a_quarter(req: u32, service: &Echo) -> Ready<Result<u32, Fault>>
     service.call(req / 4)
 }
 
+/// Whether a service that is lent to a closure, which asks for a quarter, answers so, and a copy of it too.
+pub(crate) fn quarters(
+    task: &MockTask,
+    alloc: Global,
+    questions: &[Question<u32, u32, Fault>],
+) -> Result<bool, AllocError> {
+    let applied: Apply<_, _, u32, u32, u32, Fault> = apply_fn(alloc, Echo, asks_a_quarter)?;
+    let copy = applied.clone()?;
+    Ok(all_hold(task, alloc, &applied, questions)? && all_hold(task, alloc, &copy, questions)?)
+}
+
 #[test]
 fn each_service_answers_the_same_each_way(rt: HostRuntime) -> Result<(), Fail> {
     let task = MockTask::new(&rt)?;
     let alloc = rt.alloc();
-    let asked = [Question::AnswersEachWay(8u32, Poll::Ready(Ok(4)))];
-    assert!(rt; mapped(&task, alloc, (Echo, half), &asked)?);
-    let asked = [Question::AnswersEachWay(8u32, Poll::Ready(Ok(8)))];
-    assert!(rt; renamed(&task, alloc, (Echo, same), &asked)?);
-    assert!(rt; chained(&task, alloc, (Echo, Echo), &asked)?);
-    assert!(rt; handed(&task, alloc, (Echo, Obeying), &asked)?);
-    let asked = [Question::AnswersEachWay(8u32, Poll::Ready(Ok(2)))];
-    let applied: Apply<_, _, u32, u32, u32, Fault> = apply_fn(alloc, Echo, asks_a_quarter)?;
-    assert!(rt; all_hold(&task, alloc, &applied, &asked)?);
+    let half = [Question::AnswersEachWay(8, Ok(4))];
+    assert!(rt; halves(&task, alloc, 0, &half)?);
+    let asked = [Question::AnswersEachWay(8, Ok(8))];
+    assert!(rt; echoes(&task, alloc, 0, &asked)?);
+    let asked = [Question::AnswersEachWay(8, Ok(8))];
+    assert!(rt; echo_in_turn(&task, alloc, (0, 0), &asked)?);
+    assert!(rt; obeys(&task, alloc, 0, &asked)?);
+    let quarter = [Question::AnswersEachWay(8, Ok(2))];
+    assert!(rt; quarters(&task, alloc, &quarter)?);
     Ok(())
-}
-
-/// Three times a number and one more.
-fn tripled(number: u32) -> u32 {
-    number.wrapping_mul(3).wrapping_add(1)
 }
 
 /// Twelve times `tripled`.
@@ -345,10 +412,10 @@ fn tripled_twelve_times(number: u32) -> u32 {
 
 // Whether twelve maps answer as one, and both so.
 fn twelve_answer_as_one(task: &MockTask, alloc: Global, req: u32) -> Result<bool, AllocError> {
-    let asked = [Question::Answers(req, Poll::Ready(Ok(tripled_twelve_times(req))))];
+    let asked = [Question::Answers(req, Ok(tripled_twelve_times(req)))];
     Ok(
-        through_twelve(task, alloc, (Echo, tripled), &asked)?
-            && mapped(task, alloc, (Echo, tripled_twelve_times), &asked)?,
+        Twelve::holds(task, alloc, Echo, &asked)?
+            && mapped(task, alloc, Echo, tripled_twelve_times, &asked)?,
     )
 }
 
@@ -363,22 +430,29 @@ fn twelve_maps_answer_as_one(rt: HostRuntime) -> Result<(), Fail> {
     Ok(())
 }
 
+/// Asks for a word beside nothing.
+fn asks_beside(word: Word, service: &Counting<'_, Echo>) -> Ready<Result<(Word, ()), Fault>>
+    ensures { ⟦<Ready<Result<(Word, ()), Fault>> as Future>⟧.can_poll result }
+{
+    service.call((word, ()))
+}
+
 #[test]
 fn apply_fn_hands_its_closure_the_request_and_the_service(rt: HostRuntime) -> Result<(), Fail> {
     let task = MockTask::new(&rt)?;
     let tally = Tally::new();
     let service = Counting::over(Echo, &tally);
-    let applied: Apply<_, _, Word, (), (Word, ()), Fault> = apply_fn(
+    let applied: Apply<_, _, Word, (Word, ()), (Word, ()), Fault> = apply_fn(
         rt.alloc(),
-        &service,
-        |req: Word, srv| srv.call(()).map_ok(move |done| (req, done)),
+        service,
+        asks_beside,
     )?;
     let asked = [
-        Question::Answers(Word::Srv, Poll::Ready(Ok((Word::Srv, ())))),
-        Question::IsReady(Poll::Ready(Ok(()))),
+        Question::Answers(Word::Srv, Ok((Word::Srv, ()))),
+        Question::IsReady(Ok(())),
     ];
     assert!(rt; all_hold(&task, rt.alloc(), &applied, &asked)?);
-    assert_eq!(rt; tally.polls.get(), 1);
-    assert_eq!(rt; tally.calls.get(), 1);
+    assert!(rt; tally.polls.get() == 1);
+    assert!(rt; tally.calls.get() == 1);
     Ok(())
 }

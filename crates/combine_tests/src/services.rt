@@ -10,7 +10,7 @@ use std::cell::Cell;
 use std::marker::PhantomData;
 
 /// Why a service of the tests gave no response.
-#[derive(Clone, Copy, Debug, Drop, PartialEq, Eq)]
+#[derive(Clone, Copy, Drop, PartialEq)]
 pub(crate) enum Fault {
     Bad,
     Worse,
@@ -28,7 +28,7 @@ impl NoMemory for Fault {
 }
 
 /// An error that `map_err` makes.
-#[derive(Clone, Copy, Debug, Drop, PartialEq, Eq)]
+#[derive(Clone, Copy, Drop, PartialEq)]
 pub(crate) enum Failure {
     Mapped,
     NoRoom,
@@ -45,7 +45,7 @@ impl NoMemory for Failure {
 }
 
 /// A word of requests and responses.
-#[derive(Clone, Copy, Debug, Drop, PartialEq, Eq)]
+#[derive(Clone, Copy, Drop, PartialEq)]
 pub(crate) enum Word {
     Srv,
     Srv1,
@@ -198,50 +198,6 @@ impl Service<Result<Word, Fault>> for Summing {
             Ok(m) => ok((m, Word::Fine)),
             Err(_) => ok((Word::Srv2, Word::Failed)),
         }
-    }
-}
-
-/// Adds a step to each number, and counts its calls.
-#[derive(Drop)]
-pub(crate) struct Adding {
-    pub(crate) step: u32,
-    pub(crate) calls: Cell<u32>,
-}
-
-impl Adding {
-    /// A service that adds the step.
-    pub(crate) fn by(step: u32) -> Adding
-        ensures { result.step ≡ step }
-    {
-        Adding {
-            step,
-            calls: Cell::new(0),
-        }
-    }
-}
-
-impl Service<u32> for Adding {
-    type Response = u32;
-
-    type Error = Fault;
-
-    type Future = Ready<Result<u32, Fault>>;
-
-    ghost may = { λ _ _ _. ⊤ };
-
-    ghost may_ready = { λ _ _. ⊤ };
-
-    ghost may_begin = { λ _ _ f. GivesOnly ⟦<Ready<Result<u32, Fault>> as Future>⟧ f (λ _. ⊤) };
-
-    ghost begun_gives = { λ s q f h. h };
-
-    fn poll_ready(&self, _cx: &mut Context<'_>) -> Poll<Result<(), Fault>> {
-        Poll::Ready(Ok(()))
-    }
-
-    fn call(&self, req: u32) -> Ready<Result<u32, Fault>> {
-        self.calls.set(self.calls.get().saturating_add(1));
-        ok(req.wrapping_add(self.step))
     }
 }
 

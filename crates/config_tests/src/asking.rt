@@ -52,7 +52,7 @@ pub(crate) fn each_way<C>(cfg: C) -> Order<C> {
 }
 
 /// Whether a factory shows what it has to.
-fn shows<F, Req>(
+pub(crate) fn shows<F, Req>(
     task: &MockTask,
     factory: &F,
     cfg: F::Config,

@@ -44,7 +44,7 @@ impl<S: Service<Req> + Drop, Req> Future for Readiness<S, Req> {
 }
 
 /// That something else came: an error where it is want of memory.
-fn is_other<E: NoMemory + PartialEq>(error: E) -> Result<bool, AllocError> {
+pub(crate) fn is_other<E: NoMemory + PartialEq>(error: E) -> Result<bool, AllocError> {
     if error == E::no_memory() {
         Err(AllocError)
     } else {
@@ -80,6 +80,38 @@ where
     }
 }
 
+/// Whether a service answers so at once.
+pub(crate) fn answers<S, Req>(
+    task: &MockTask,
+    service: S,
+    req: Req,
+    wanted: &Result<S::Response, S::Error>,
+) -> Result<bool, AllocError>
+where
+    S: Service<Req, Response: PartialEq + Drop, Error: NoMemory + PartialEq> + Drop,
+    requires { S.can_call service }
+{
+    let mut future = service.call(req);
+    is_answer(task.poll(&mut future), wanted)
+}
+
+/// Whether the readiness of a service is so at once.
+pub(crate) fn is_ready<S, Req>(
+    task: &MockTask,
+    service: S,
+    wanted: &Result<(), S::Error>,
+) -> Result<bool, AllocError>
+where
+    S: Service<Req, Error: NoMemory + PartialEq> + Drop,
+    requires { S.can_call service }
+{
+    let mut readiness = Readiness {
+        service,
+        request: PhantomData,
+    };
+    is_answer(task.poll(&mut readiness), wanted)
+}
+
 /// Whether a service that is made at once answers so at once.
 fn serves<M, S, Req, I>(
     task: &MockTask,
@@ -96,11 +128,7 @@ where
     requires callable { (s : S) → M.gives making (Made s) → S.can_call s }
 {
     match task.poll(&mut making) {
-        Poll::Ready(Ok(service)) => {
-            let mut future = service.call(req);
-            let answer = task.poll(&mut future);
-            is_answer(answer, wanted)
-        }
+        Poll::Ready(Ok(service)) => answers(task, service, req, wanted),
         Poll::Ready(Err(error)) => is_other(error),
         Poll::Pending => Ok(false),
     }
@@ -120,14 +148,7 @@ where
     requires callable { (s : S) → M.gives making (Made s) → S.can_call s }
 {
     match task.poll(&mut making) {
-        Poll::Ready(Ok(service)) => {
-            let mut readiness = Readiness {
-                service,
-                request: PhantomData,
-            };
-            let answer = task.poll(&mut readiness);
-            is_answer(answer, wanted)
-        }
+        Poll::Ready(Ok(service)) => is_ready::<S, Req>(task, service, wanted),
         Poll::Ready(Err(error)) => is_other(error),
         Poll::Pending => Ok(false),
     }

@@ -66,34 +66,6 @@ impl<T: Drop> Service<T> for Faulty {
     }
 }
 
-/// Answers half of each number.
-#[derive(Clone, Copy, Drop)]
-pub(crate) struct Halving;
-
-impl Service<u32> for Halving {
-    type Response = u32;
-
-    type Error = Fault;
-
-    type Future = Ready<Result<u32, Fault>>;
-
-    ghost may = { λ _ _ _. ⊤ };
-
-    ghost may_ready = { λ _ _. ⊤ };
-
-    ghost may_begin = { λ _ _ f. GivesOnly ⟦<Ready<Result<u32, Fault>> as Future>⟧ f (λ _. ⊤) };
-
-    ghost begun_gives = { λ s q f h. h };
-
-    fn poll_ready(&self, _cx: &mut Context<'_>) -> Poll<Result<(), Fault>> {
-        Poll::Ready(Ok(()))
-    }
-
-    fn call(&self, req: u32) -> Ready<Result<u32, Fault>> {
-        ok(req / 2)
-    }
-}
-
 /// Adds a step to each number.
 #[derive(Clone, Copy, Drop)]
 pub(crate) struct Adding {

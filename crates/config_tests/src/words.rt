@@ -2,6 +2,7 @@
 ghost use Rattle.std.specs.Prelude.{⊤};
 
 use service_core::NoMemory;
+use std::alloc::AllocError;
 
 /// A word of requests and responses.
 #[derive(Clone, Copy, Drop, PartialEq)]
@@ -61,5 +62,13 @@ pub(crate) trait Again: Drop {
 impl Again for u32 {
     fn again(&self) -> u32 {
         *self
+    }
+}
+
+impl From<AllocError> for Denial {
+    ghost from_gives = { λ _ _. ⊤ };
+
+    fn from(_: AllocError) -> Denial {
+        Denial::Memory
     }
 }

@@ -1,36 +1,20 @@
 //! Copies of factories make what their originals make.
 
 use crate::asking::{Bench, each_way};
-use crate::changing::{excused, mapped, renamed};
+use crate::factory_tests::{excuses, halves, renames};
 use crate::makers::copies;
 use crate::making::Asked;
-use crate::naming::{excuse, half, same};
 use crate::pairing::{chained, handed};
-use crate::services::{Echo, Halving, Mending};
+use crate::services::{Halving, Mending};
 use std::alloc::AllocError;
 use std::test::Fail;
 
 /// Whether each changed factory and its copy make the same, each way.
 pub(crate) fn changed_make_the_same(bench: &Bench, cfg: u32) -> Result<bool, AllocError> {
     let order = each_way(cfg);
-    let halved = mapped(
-        bench,
-        (copies(Echo), half),
-        &order,
-        Asked::Served(8u32, Ok(4)),
-    )?;
-    let same = renamed(
-        bench,
-        (copies(Echo), same),
-        &order,
-        Asked::Served(8u32, Ok(8)),
-    )?;
-    let excused = excused(
-        bench,
-        (copies(Echo), excuse),
-        &order,
-        Asked::Served(8u32, Ok(8)),
-    )?;
+    let halved = halves(bench, 0, &order, Asked::Served(8, Ok(4)))?;
+    let same = renames(bench, 0, &order, Asked::Served(8, Ok(8)))?;
+    let excused = excuses(bench, 0, &order, Asked::Served(8, Ok(8)))?;
     Ok(halved && same && excused)
 }
 

@@ -1,4 +1,4 @@
-//! Tests of the combinators of factories and of transforms, and of their copies.
+//! Tests of the combinators of factories and of transforms, and of their copies, and small programs over factories.
 #![tactic(auto)]
 
 #[cfg(test)]
@@ -7,6 +7,8 @@ mod asking;
 mod changing;
 #[cfg(test)]
 mod copy_tests;
+#[cfg(test)]
+mod factory_programs;
 #[cfg(test)]
 mod factory_tests;
 #[cfg(test)]
@@ -23,6 +25,8 @@ mod pipeline_tests;
 mod refusal_tests;
 #[cfg(test)]
 mod services;
+#[cfg(test)]
+mod startup;
 #[cfg(test)]
 mod transform_tests;
 #[cfg(test)]

@@ -2,7 +2,7 @@
 ghost use Rattle.std.specs.Prelude.{⊤};
 ghost use Rattle.service_core.specs.Meaning.{GivesOnly};
 
-use crate::services::{Echo, Scoring, Tagging};
+use crate::services::{Adding, Echo, Scoring, Tagging};
 use crate::words::{Denial, Fault, Mark, Word};
 use futures::Future;
 use futures::task::{Context, Poll};
@@ -193,6 +193,44 @@ impl<T: Drop> ServiceFactory<T> for Tags {
 
     fn new_service(&self, cfg: Mark) -> Ready<Result<Tagging, Denial>> {
         ok(Tagging { tag: cfg.word })
+    }
+}
+
+/// Makes services that add their configuration, which is not 0.
+#[derive(Clone, Copy, Drop)]
+pub(crate) struct Steps;
+
+impl ServiceFactory<u32> for Steps {
+    type Response = u32;
+
+    type Error = Fault;
+
+    type Config = u32;
+
+    type Service = Adding;
+
+    type InitError = Denial;
+
+    type Future = Ready<Result<Adding, Denial>>;
+
+    ghost may = { λ _ _ _ _. ⊤ };
+
+    ghost may_ready = { λ _ _ _. ⊤ };
+
+    ghost may_begin = { λ _ _ _ f. GivesOnly ⟦<Ready<Result<u32, Fault>> as Future>⟧ f (λ _. ⊤) };
+
+    ghost may_init = { λ _ _ _. ⊤ };
+
+    ghost may_make = { λ _ _. ⊤ };
+
+    ghost begun_gives = { λ s c q f h. h };
+
+    fn new_service(&self, cfg: u32) -> Ready<Result<Adding, Denial>> {
+        if cfg == 0 {
+            err(Denial::Second)
+        } else {
+            ok(Adding { step: cfg })
+        }
     }
 }
 

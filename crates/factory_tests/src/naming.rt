@@ -10,10 +10,6 @@ pub(crate) fn half(n: u32) -> u32 {
     n / 2
 }
 
-pub(crate) fn same(fault: Fault) -> Fault {
-    fault
-}
-
 pub(crate) fn failure(_: Fault) -> Failure {
     Failure::Mapped
 }

@@ -1,6 +1,6 @@
 //! What pipelines of factories make.
 
-use crate::asking::{Bench, each_way, once};
+use crate::asking::{Bench, Order, each_way, once};
 use crate::changing::{excused_pipeline, mapped_pipeline, renamed_pipeline};
 use crate::makers::{Tags, copies, copies_late, denies, scored};
 use crate::making::Asked;
@@ -94,17 +94,22 @@ fn a_pipeline_of_factories_hands_each_result_on(rt: HostRuntime) -> Result<(), F
     Ok(())
 }
 
-/// Whether a pipeline whose parts both come late shows what it has to.
-fn late(bench: &Bench, asked: &Asked<u32, u32, Fault, Denial>) -> Result<bool, AllocError> {
-    let parts = (copies_late(1, Echo), copies_late(1, Obeying));
-    handed(bench, parts, &once(1u32), asked)
+/// Whether a pipeline of a part that echoes and one that obeys, which wait so often, shows what it has to.
+fn obeys(
+    bench: &Bench,
+    waits: u32,
+    order: &Order<u32>,
+    asked: &Asked<u32, u32, Fault, Denial>,
+) -> Result<bool, AllocError> {
+    let parts = (copies_late(waits, Echo), copies_late(waits, Obeying));
+    handed(bench, parts, order, asked)
 }
 
 #[test]
 fn then_makes_both_parts_at_once(rt: HostRuntime) -> Result<(), Fail> {
     let bench = Bench::new(&rt)?;
-    assert!(rt; late(&bench, &Asked::Waits)?);
-    assert!(rt; late(&bench, &Asked::Polls(2))?);
+    assert!(rt; obeys(&bench, 1, &once(1), &Asked::Waits)?);
+    assert!(rt; obeys(&bench, 1, &once(1), &Asked::Polls(2))?);
     Ok(())
 }
 
@@ -149,14 +154,6 @@ fn then_takes_a_configuration_without_clones_for_want_of_memory(
 #[test]
 fn a_pipeline_of_factories_makes_the_same_where_it_is_shared(rt: HostRuntime) -> Result<(), Fail> {
     let bench = Bench::new(&rt)?;
-    let answer = Asked::Served(8u32, Ok(8));
-    assert!(rt;
-        handed(
-            &bench,
-            (copies(Echo), copies(Obeying)),
-            &each_way(1u32),
-            &answer
-        )?
-    );
+    assert!(rt; obeys(&bench, 0, &each_way(1), &Asked::Served(8, Ok(8)))?);
     Ok(())
 }

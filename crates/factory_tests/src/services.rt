@@ -244,3 +244,33 @@ impl<S: Service<Req>, Req> Service<Req> for Scoring<'_, S> {
         self.service.call(req)
     }
 }
+
+/// Adds a step to each number.
+#[derive(Clone, Copy, Drop)]
+pub(crate) struct Adding {
+    pub(crate) step: u32,
+}
+
+impl Service<u32> for Adding {
+    type Response = u32;
+
+    type Error = Fault;
+
+    type Future = Ready<Result<u32, Fault>>;
+
+    ghost may = { λ _ _ _. ⊤ };
+
+    ghost may_ready = { λ _ _. ⊤ };
+
+    ghost may_begin = { λ _ _ f. GivesOnly ⟦<Ready<Result<u32, Fault>> as Future>⟧ f (λ _. ⊤) };
+
+    ghost begun_gives = { λ s q f h. h };
+
+    fn poll_ready(&self, _cx: &mut Context<'_>) -> Poll<Result<(), Fault>> {
+        Poll::Ready(Ok(()))
+    }
+
+    fn call(&self, req: u32) -> Ready<Result<u32, Fault>> {
+        ok(req.wrapping_add(self.step))
+    }
+}

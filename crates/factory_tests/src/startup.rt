@@ -1,12 +1,12 @@
 //! How a program begins.
 ghost use Rattle.std.specs.Prelude.{⊤};
 
-use crate::services::Fault;
+use crate::words::Denial;
 use futures::task::{Context, Poll};
 use service_core::{NoMemory, Ready, Service, Transform, err, ok};
 
 /// Why a program does not begin.
-#[derive(Clone, Copy, Debug, Drop, PartialEq, Eq)]
+#[derive(Clone, Copy, Drop, PartialEq)]
 pub(crate) enum Startup {
     Service,
     Wrapping,
@@ -14,7 +14,7 @@ pub(crate) enum Startup {
 }
 
 impl NoMemory for Startup {
-    ghost use Rattle.combine_program_tests.specs.declared.startup.Startup.TheVariants.{NoRoom};
+    ghost use Rattle.factory_tests.specs.declared.startup.Startup.TheVariants.{NoRoom};
 
     ghost refusal = { NoRoom };
 
@@ -23,10 +23,10 @@ impl NoMemory for Startup {
     }
 }
 
-impl From<Fault> for Startup {
+impl From<Denial> for Startup {
     ghost from_gives = { λ _ _. ⊤ };
 
-    fn from(_: Fault) -> Startup {
+    fn from(_: Denial) -> Startup {
         Startup::Service
     }
 }
@@ -65,7 +65,7 @@ impl<S: Service<u32>> Service<u32> for Doubled<S> {
 }
 
 /// Puts `Doubled` over each service, unless it is broken.
-#[derive(Drop)]
+#[derive(Clone, Copy, Drop)]
 pub(crate) struct Doubling {
     pub(crate) is_broken: bool,
 }

@@ -1,21 +1,21 @@
 //! Programs over services.
 ghost use Rattle.std.specs.Prelude.{◌≡◌};
 
-use crate::limits::Limited;
-use crate::questions::{answers, answers_third, readies};
-use crate::services::{Adding, Awaking, Counting, Echo, Failure, Fault, Faulty, Slow, Tally};
+use crate::builds::{handed, renamed, to_the_left};
+use crate::numbers::{Adding, Limited, Mending};
+use crate::questions::{Question, answers};
+use crate::services::{Awaking, Counting, Echo, Failure, Fault, Faulty, Slow, Tally};
 use futures::Future;
-use futures::task::Poll;
 use futures::test::MockTask;
 use service_combine::{Apply, Pipeline, ServiceExt, apply_fn, pipeline};
-use service_core::{NoMemory, Ready, Service, err, fn_service, ok};
+use service_core::{NoMemory, Ready, Service};
 use std::alloc::{AllocError, Global};
 use std::cell::Cell;
 use std::rc::Rc;
 use std::test::Fail;
 
 /// Why a gateway gives no page.
-#[derive(Clone, Copy, Debug, Drop, PartialEq, Eq)]
+#[derive(Clone, Copy, Drop, PartialEq)]
 enum Denied {
     Behind,
     Before,
@@ -23,7 +23,7 @@ enum Denied {
 }
 
 impl NoMemory for Denied {
-    ghost use Rattle.combine_program_tests.specs.declared.service_programs.Denied.TheVariants.{NoRoom};
+    ghost use Rattle.combine_tests.specs.declared.service_programs.Denied.TheVariants.{NoRoom};
 
     ghost refusal = { NoRoom };
 
@@ -49,67 +49,73 @@ fn failure(_: Fault) -> Failure {
     Failure::Mapped
 }
 
-// Three more, up to a limit.
-fn three_more(number: u32) -> Ready<Result<u32, Failure>>
-    ensures { ⟦<Ready<Result<u32, Failure>> as Future>⟧.can_poll result }
-{
-    if number > 500 {
-        err(Failure::Mapped)
-    } else {
-        ok(number.wrapping_add(3))
-    }
-}
-
-// The number of a page that is not there, for each error.
-fn or_404(outcome: Result<u32, Failure>) -> Ready<Result<u32, Failure>>
-    ensures { ⟦<Ready<Result<u32, Failure>> as Future>⟧.can_poll result }
-{
-    match outcome {
-        Ok(number) => ok(number),
-        Err(_) => ok(404),
-    }
-}
-
-// Whether a pipeline answers so with a limit and a fallback behind it.
-fn with_fallback<S, L, T>(
+// Whether a pipeline answers so with a fallback behind it.
+fn with_fallback<S>(
     task: &MockTask,
     alloc: Global,
-    parts: (Pipeline<S, u32>, L, T),
+    chain: Pipeline<S, u32>,
     row: (u32, u32),
 ) -> Result<bool, AllocError>
 where
     S: Service<u32, Response = u32, Error = Failure> + Drop,
-    L: Service<u32, Response = u32, Error = Failure> + Drop,
-    T: Service<Result<u32, Failure>, Response = u32, Error = Failure> + Drop,
-    requires chain { ⟦<Pipeline<S, u32> as Service<u32>>⟧.can_call parts.0 }
-    requires limit { L.can_call parts.1 }
-    requires fallback { T.can_call parts.2 }
+    requires { ⟦<Pipeline<S, u32> as Service<u32>>⟧.can_call chain }
 {
-    let (chain, limit, fallback) = parts;
-    let chain = chain.and_then(alloc, limit)?.then(alloc, fallback)?;
-    answers(task, chain, row.0, Ok(row.1))
+    let fallback = Mending {
+        error: Failure::Mapped,
+        with: 404,
+    };
+    let chain = chain.then(alloc, fallback)?;
+    answers(task, chain, row.0, &Ok(row.1))
 }
 
-// Whether a service answers so under four middlewares more.
-fn under_four<S, L, T>(
+// Whether a pipeline answers so with a limit and a fallback behind it.
+fn with_limit<S>(
     task: &MockTask,
     alloc: Global,
-    parts: (S, L, T),
+    chain: Pipeline<S, u32>,
+    row: (u32, u32),
+) -> Result<bool, AllocError>
+where
+    S: Service<u32, Response = u32, Error = Failure> + Drop,
+    requires { ⟦<Pipeline<S, u32> as Service<u32>>⟧.can_call chain }
+{
+    let limit = Limited {
+        limit: 500,
+        step: 3,
+        error: Failure::Mapped,
+    };
+    let chain = chain.and_then(alloc, limit)?;
+    with_fallback(task, alloc, chain, row)
+}
+
+// Whether a pipeline answers so with its errors changed, a limit and a fallback behind it.
+fn with_own_errors<S>(
+    task: &MockTask,
+    alloc: Global,
+    chain: Pipeline<S, u32>,
     row: (u32, u32),
 ) -> Result<bool, AllocError>
 where
     S: Service<u32, Response = u32, Error = Fault> + Drop,
-    L: Service<u32, Response = u32, Error = Failure> + Drop,
-    T: Service<Result<u32, Failure>, Response = u32, Error = Failure> + Drop,
-    requires service { S.can_call parts.0 }
-    requires limit { L.can_call parts.1 }
-    requires fallback { T.can_call parts.2 }
+    requires { ⟦<Pipeline<S, u32> as Service<u32>>⟧.can_call chain }
 {
-    let (service, limit, fallback) = parts;
-    let chain = pipeline(service)
-        .map(alloc, ten_times)?
-        .map_err(alloc, failure)?;
-    with_fallback(task, alloc, (chain, limit, fallback), row)
+    let chain = chain.map_err(alloc, failure)?;
+    with_limit(task, alloc, chain, row)
+}
+
+// Whether a service answers so under four middlewares more.
+fn under_four<S>(
+    task: &MockTask,
+    alloc: Global,
+    service: S,
+    row: (u32, u32),
+) -> Result<bool, AllocError>
+where
+    S: Service<u32, Response = u32, Error = Fault> + Drop,
+    requires { S.can_call service }
+{
+    let chain = pipeline(service).map(alloc, ten_times)?;
+    with_own_errors(task, alloc, chain, row)
 }
 
 // Whether a service that adds answers so under five middlewares.
@@ -119,9 +125,7 @@ fn through_five(task: &MockTask, alloc: Global, row: (u32, u32)) -> Result<bool,
         Adding::by(1),
         asks_ten_times,
     )?;
-    let limit = fn_service(alloc, three_more)?;
-    let fallback = fn_service(alloc, or_404)?;
-    under_four(task, alloc, (applied, limit, fallback), row)
+    under_four(task, alloc, applied, row)
 }
 
 #[test]
@@ -142,25 +146,40 @@ fn word_for(failure: Failure) -> Denied {
     }
 }
 
-// Whether a gateway says so of a request over a service with faults, each layer in its own words.
+// Whether a gateway says so of a request, each layer in its own words.
 fn in_three_layers<S, T>(
     task: &MockTask,
     alloc: Global,
-    parts: (S, T),
+    behind: S,
+    before: T,
+    want: Result<u32, Denied>,
+) -> Result<bool, AllocError>
+where
+    S: Service<u32, Response = u32, Error = Failure> + Drop,
+    T: Service<u32, Response = u32, Error = Failure> + Drop,
+    requires behind { S.can_call behind }
+    requires before { T.can_call before }
+{
+    let chain = behind.and_then(alloc, before)?;
+    renamed(task, alloc, chain, word_for, &[Question::Answers(7, want)])
+}
+
+// Whether a gateway says so whose service behind has its errors changed.
+fn behind_renamed<S, T>(
+    task: &MockTask,
+    alloc: Global,
+    behind: S,
+    before: T,
     want: Result<u32, Denied>,
 ) -> Result<bool, AllocError>
 where
     S: Service<u32, Response = u32, Error = Fault> + Drop,
     T: Service<u32, Response = u32, Error = Failure> + Drop,
-    requires behind { S.can_call parts.0 }
-    requires before { T.can_call parts.1 }
+    requires behind { S.can_call behind }
+    requires before { T.can_call before }
 {
-    let (behind, before) = parts;
-    let chain = behind
-        .map_err(alloc, failure)?
-        .and_then(alloc, before)?
-        .map_err(alloc, word_for)?;
-    answers(task, chain, 7, want)
+    let renamed = behind.map_err(alloc, failure)?;
+    in_three_layers(task, alloc, renamed, before, want)
 }
 
 // The error of the service before for each fault.
@@ -168,22 +187,22 @@ fn no_room(_: Fault) -> Failure {
     Failure::NoRoom
 }
 
-// Whether a gateway says so whose service before has its errors changed.
-fn before_renamed<S, T>(
+// Whether a gateway says so over services with faults, each with its errors changed.
+fn both_renamed<S, T>(
     task: &MockTask,
     alloc: Global,
-    parts: (S, T),
+    behind: S,
+    before: T,
     want: Result<u32, Denied>,
 ) -> Result<bool, AllocError>
 where
     S: Service<u32, Response = u32, Error = Fault> + Drop,
     T: Service<u32, Response = u32, Error = Fault> + Drop,
-    requires behind { S.can_call parts.0 }
-    requires before { T.can_call parts.1 }
+    requires behind { S.can_call behind }
+    requires before { T.can_call before }
 {
-    let (behind, before) = parts;
     let renamed = before.map_err(alloc, no_room)?;
-    in_three_layers(task, alloc, (behind, renamed), want)
+    behind_renamed(task, alloc, behind, renamed, want)
 }
 
 #[test]
@@ -191,24 +210,10 @@ fn each_layer_changes_errors_to_its_own(rt: HostRuntime) -> Result<(), Fail> {
     let task = MockTask::new(&rt)?;
     let alloc = rt.alloc();
     let faulty = Faulty { fault: Fault::Bad };
-    assert!(rt; before_renamed(&task, alloc, (faulty, Echo), Err(Denied::Behind))?);
-    assert!(rt; before_renamed(&task, alloc, (Echo, faulty), Err(Denied::Before))?);
-    assert!(rt; before_renamed(&task, alloc, (Echo, Echo), Ok(7))?);
+    assert!(rt; both_renamed(&task, alloc, faulty, Echo, Err(Denied::Behind))?);
+    assert!(rt; both_renamed(&task, alloc, Echo, faulty, Err(Denied::Before))?);
+    assert!(rt; both_renamed(&task, alloc, Echo, Echo, Ok(7))?);
     Ok(())
-}
-
-// Whether a service is ready at its fourth poll, and answers 8 to 7 at its third one.
-fn counts_down<S>(task: &MockTask, service: &S) -> Result<bool, AllocError>
-where
-    S: Service<u32, Response = u32, Error: PartialEq + NoMemory> + Drop,
-    requires { S.can_call service.now }
-{
-    let first = readies(task, service, Poll::Pending)?;
-    let second = readies(task, service, Poll::Pending)?;
-    let third = readies(task, service, Poll::Pending)?;
-    let fourth = readies(task, service, Poll::Ready(Ok(())))?;
-    let answered = answers_third(task, service, 7, Ok(8))?;
-    Ok(first && second && third && fourth && answered)
 }
 
 // One more.
@@ -226,8 +231,15 @@ where
     S: Service<u32, Response = u32, Error = Fault> + Drop,
     requires { S.can_call service }
 {
-    let chain = service.map(alloc, one_more)?.map_err(alloc, failure)?;
-    counts_down(task, &chain)
+    let chain = service.map(alloc, one_more)?;
+    let asked = [
+        Question::ReadinessWaits,
+        Question::ReadinessWaits,
+        Question::ReadinessWaits,
+        Question::IsReady(Ok(())),
+        Question::AnswersThird(7, Ok(8)),
+    ];
+    renamed(task, alloc, chain, failure, &asked)
 }
 
 #[test]
@@ -262,20 +274,19 @@ where
     requires first { A.can_call first }
     requires second { B.can_call second }
 {
-    let once = answers(task, &first, 7, Ok(16))?;
-    let other = answers(task, second, 7, Ok(8))?;
-    let again = answers(task, first, 8, Ok(18))?;
+    let once = answers(task, &first, 7, &Ok(16))?;
+    let other = answers(task, second, 7, &Ok(8))?;
+    let again = answers(task, first, 8, &Ok(18))?;
     Ok(once && other && again)
 }
 
 // Whether two pipelines over parts answer so in turn.
-fn in_two_pipelines<S>(task: &MockTask, alloc: Global, parts: (S, S)) -> Result<bool, AllocError>
+fn in_two_pipelines<S>(task: &MockTask, alloc: Global, one: S, other: S) -> Result<bool, AllocError>
 where
     S: Service<u32, Response = u32, Error = Fault> + Drop,
-    requires one { S.can_call parts.0 }
-    requires other { S.can_call parts.1 }
+    requires one { S.can_call one }
+    requires other { S.can_call other }
 {
-    let (one, other) = parts;
     let first = pipeline(one).map(alloc, twice)?;
     let second = pipeline(other).map_err(alloc, behind)?;
     answer_in_turn(task, first, second)
@@ -286,24 +297,12 @@ fn two_pipelines_share_one_service(rt: HostRuntime) -> Result<(), Fail> {
     let task = MockTask::new(&rt)?;
     let alloc = rt.alloc();
     let shared = Rc::new(alloc, Adding::by(1))?;
-    let parts = (shared.clone()?, shared.clone()?);
-    assert!(rt; in_two_pipelines(&task, alloc, parts)?);
-    assert_eq!(rt; shared.calls.get(), 3);
+    assert!(rt; in_two_pipelines(&task, alloc, shared.clone()?, shared.clone()?)?);
+    assert!(rt; shared.calls.get() == 3);
     Ok(())
 }
 
-// Nothing for one error.
-fn or_nothing(outcome: Result<u32, Fault>) -> Ready<Result<u32, Fault>>
-    ensures { ⟦<Ready<Result<u32, Fault>> as Future>⟧.can_poll result }
-{
-    match outcome {
-        Ok(number) => ok(number),
-        Err(Fault::Bad) => ok(0),
-        Err(e) => err(e),
-    }
-}
-
-// Whether a service answers so where one error becomes an answer.
+// Whether a service answers so to 7 where one error becomes an answer.
 fn falls_back<S>(
     task: &MockTask,
     alloc: Global,
@@ -314,9 +313,17 @@ where
     S: Service<u32, Response = u32, Error = Fault> + Drop,
     requires { S.can_call service }
 {
-    let fallback = fn_service(alloc, or_nothing)?;
-    let chain = pipeline(service).then(alloc, fallback)?;
-    answers(task, chain, 7, want)
+    let fallback = Mending {
+        error: Fault::Bad,
+        with: 0,
+    };
+    handed(
+        task,
+        alloc,
+        service,
+        fallback,
+        &[Question::Answers(7, want)],
+    )
 }
 
 #[test]
@@ -333,38 +340,13 @@ fn a_fallback_answers_in_place_of_one_error(rt: HostRuntime) -> Result<(), Fail>
 }
 
 // One step of a validation: it counts, and refuses each number above its limit.
-fn step<'a>(
-    alloc: Global,
-    tally: &'a Tally,
-    limit: u32,
-    fault: Fault,
-) -> Result<Counting<'a, Limited>, AllocError> {
+fn step(tally: &Tally, limit: u32, error: Fault) -> Counting<'_, Limited<Fault>> {
     let limited = Limited {
         limit,
-        fault,
-        service: Rc::new(alloc, Adding::by(0))?,
+        step: 0,
+        error,
     };
-    Ok(Counting::over(limited, tally))
-}
-
-// Whether three steps answer so, one behind the other.
-fn validate<A, B, C>(
-    task: &MockTask,
-    alloc: Global,
-    parts: (A, B, C),
-    row: (u32, Result<u32, Fault>),
-) -> Result<bool, AllocError>
-where
-    A: Service<u32, Response = u32, Error = Fault> + Drop,
-    B: Service<u32, Response = u32, Error = Fault> + Drop,
-    C: Service<u32, Response = u32, Error = Fault> + Drop,
-    requires first { A.can_call parts.0 }
-    requires second { B.can_call parts.1 }
-    requires third { C.can_call parts.2 }
-{
-    let (first, second, third) = parts;
-    let chain = first.and_then(alloc, second)?.and_then(alloc, third)?;
-    answers(task, chain, row.0, row.1)
+    Counting::over(limited, tally)
 }
 
 // Whether a validation answers so, by so many steps.
@@ -375,10 +357,11 @@ fn stops_after(
     steps: u32,
 ) -> Result<bool, AllocError> {
     let tally = Tally::new();
-    let first = step(alloc, &tally, 1000, Fault::Bad)?;
-    let second = step(alloc, &tally, 100, Fault::Worse)?;
-    let third = step(alloc, &tally, 10, Fault::Memory)?;
-    let is_so = validate(task, alloc, (first, second, third), row)?;
+    let first = step(&tally, 1000, Fault::Bad);
+    let second = step(&tally, 100, Fault::Worse);
+    let third = step(&tally, 10, Fault::Memory);
+    let asked = [Question::Answers(row.0, row.1)];
+    let is_so = to_the_left(task, alloc, first, second, third, &asked)?;
     Ok(is_so && tally.calls.get() == steps)
 }
 

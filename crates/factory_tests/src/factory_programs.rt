@@ -1,0 +1,180 @@
+//! Programs over factories of services.
+
+use crate::asking::{Bench, shows};
+use crate::makers::{Steps, copies, denies};
+use crate::making::Asked;
+use crate::services::Echo;
+use crate::startup::{Doubling, Startup};
+use crate::words::{Denial, Fault};
+use service_combine::{PipelineFactory, pipeline_factory};
+use service_core::{ServiceFactory, apply};
+use std::alloc::AllocError;
+use std::test::Fail;
+
+// Twice a number.
+fn twice(number: u32) -> u32 {
+    number.wrapping_mul(2)
+}
+
+// The program's error for what comes in place of a service.
+fn at_startup(denial: Denial) -> Startup {
+    match denial {
+        Denial::Memory => Startup::NoRoom,
+        _ => Startup::Service,
+    }
+}
+
+// Whether a pipeline of factories shows what it has to, with its errors in the program's own type.
+fn shows_in_own_type<F>(
+    bench: &Bench,
+    chain: PipelineFactory<F, u32>,
+    cfg: u32,
+    asked: &Asked<u32, u32, Fault, Startup>,
+) -> Result<bool, AllocError>
+where
+    F: ServiceFactory<
+        u32,
+        Config = u32,
+        Response = u32,
+        Error = Fault,
+        InitError = Denial,
+        Service: Drop,
+    >
+        + Drop,
+    requires { ⟦<PipelineFactory<F, u32> as ServiceFactory<u32>>⟧.can_make chain }
+{
+    let factory = chain.map_init_err(bench.alloc, at_startup)?;
+    shows(&bench.task, &factory, cfg, asked)
+}
+
+// Whether a pipeline of factories shows what it has to, with its responses doubled.
+fn shows_doubled<F>(
+    bench: &Bench,
+    chain: PipelineFactory<F, u32>,
+    cfg: u32,
+    asked: &Asked<u32, u32, Fault, Startup>,
+) -> Result<bool, AllocError>
+where
+    F: ServiceFactory<
+        u32,
+        Config = u32,
+        Response = u32,
+        Error = Fault,
+        InitError = Denial,
+        Service: Drop,
+    >
+        + Drop,
+    requires { ⟦<PipelineFactory<F, u32> as ServiceFactory<u32>>⟧.can_make chain }
+{
+    let chain = chain.map(bench.alloc, twice)?;
+    shows_in_own_type(bench, chain, cfg, asked)
+}
+
+// Whether two factories show what they have to, one behind the other.
+fn show_in_a_pipeline<A, B>(
+    bench: &Bench,
+    first: A,
+    second: B,
+    cfg: u32,
+    asked: &Asked<u32, u32, Fault, Startup>,
+) -> Result<bool, AllocError>
+where
+    A: ServiceFactory<
+        u32,
+        Config = u32,
+        Response = u32,
+        Error = Fault,
+        InitError = Denial,
+        Service: Drop,
+    >
+        + Drop,
+    B: ServiceFactory<
+        u32,
+        Config = u32,
+        Response = u32,
+        Error = Fault,
+        InitError = Denial,
+        Service: Drop,
+    >
+        + Drop,
+    requires first { A.can_make first }
+    requires second { B.can_make second }
+{
+    let chain = pipeline_factory(first).and_then(bench.alloc, second)?;
+    shows_doubled(bench, chain, cfg, asked)
+}
+
+#[test]
+fn a_pipeline_of_factories_errs_in_the_programs_own_type(rt: HostRuntime) -> Result<(), Fail> {
+    let bench = Bench::new(&rt)?;
+    let answer = Asked::Served(7, Ok(20));
+    assert!(rt; show_in_a_pipeline(&bench, copies(Echo), Steps, 3, &answer)?);
+    let error = Asked::Denied(Startup::Service);
+    assert!(rt; show_in_a_pipeline(&bench, copies(Echo), Steps, 0, &error)?);
+    Ok(())
+}
+
+// One more.
+fn one_more(number: u32) -> u32 {
+    number.wrapping_add(1)
+}
+
+// Whether a factory shows what it has to under a transform.
+fn shows_wrapped<F>(
+    bench: &Bench,
+    inner: F,
+    doubling: Doubling,
+    asked: &Asked<u32, u32, Fault, Startup>,
+) -> Result<bool, AllocError>
+where
+    F: ServiceFactory<
+        u32,
+        Config = (),
+        Response = u32,
+        Error = Fault,
+        InitError = Denial,
+        Service: Drop,
+    >
+        + Drop,
+    requires { F.can_make inner }
+{
+    let wrapped = apply(bench.alloc, doubling, inner)?;
+    shows(&bench.task, &wrapped, (), asked)
+}
+
+// Whether a pipeline over a factory shows what it has to under a transform.
+fn shows_under_a_transform<F>(
+    bench: &Bench,
+    makes: F,
+    doubling: Doubling,
+    asked: &Asked<u32, u32, Fault, Startup>,
+) -> Result<bool, AllocError>
+where
+    F: ServiceFactory<
+        u32,
+        Config = (),
+        Response = u32,
+        Error = Fault,
+        InitError = Denial,
+        Service: Drop,
+    >
+        + Drop,
+    requires { F.can_make makes }
+{
+    let inner = pipeline_factory(makes).map(bench.alloc, one_more)?;
+    shows_wrapped(bench, inner, doubling, asked)
+}
+
+#[test]
+fn a_transform_stands_over_a_pipeline_of_factories(rt: HostRuntime) -> Result<(), Fail> {
+    let bench = Bench::new(&rt)?;
+    let whole = Doubling { is_broken: false };
+    let broken = Doubling { is_broken: true };
+    let answer = Asked::Served(7, Ok(15));
+    assert!(rt; shows_under_a_transform(&bench, copies(Echo), whole, &answer)?);
+    let wrapping = Asked::Denied(Startup::Wrapping);
+    assert!(rt; shows_under_a_transform(&bench, copies(Echo), broken, &wrapping)?);
+    let service = Asked::Denied(Startup::Service);
+    assert!(rt; shows_under_a_transform(&bench, denies(Denial::First), whole, &service)?);
+    Ok(())
+}
