@@ -16,8 +16,8 @@ returns-in-Ok-new-clause-made g c x given =
         answers = λ link r may. serves g.L.Link _ _ _ policed _ limited link r may;
         readiness = policed.ready;
         futures = λ link f begun. (
-          (begun.0, λ r gives. serves g.L.Link _ _ _ policed _ limited link r (begun.1 r gives)),
-          λ back stands. serves g.L.Link _ _ _ policed _ limited link (Ok (record { link = back; how = Memory })) (begun.1 (Ok (record { link = back; how = Memory })) stands),
+          (begun.0.0, λ r gives. serves g.L.Link _ _ _ policed _ limited link r (begun.0.1 r gives)),
+          λ back stands. serves g.L.Link _ _ _ policed _ limited link (Ok (record { link = back; how = Memory })) (begun.0.1 (Ok (record { link = back; how = Memory })) stands),
         );
       },
     )
