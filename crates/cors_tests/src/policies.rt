@@ -9,11 +9,8 @@ use crate::building::Call::{
 };
 use crate::building::{Call, after, built};
 use crate::inner::Inner;
-use cors_answer::laws::middleware_is_cors;
 use cors_answer::{Cors, CorsFault, CorsInitError, CorsMiddleware, CorsRefusal};
-use cors_policy::{
-    ConfigError, CorsError, NoRule, OriginRule, Policy, add_vary_header, is_request_preflight,
-};
+use cors_policy::{ConfigError, CorsError, NoRule, OriginRule, Policy};
 use futures::task::Poll;
 use futures::test::MockTask;
 use http::method::Method;
@@ -257,7 +254,7 @@ const PUT: [(&str, &str); 3] = [
 ];
 
 fn is_preflight(alloc: Global, method: Method) -> Result<bool, AllocError> {
-    Ok(is_request_preflight(&head(alloc, (method, &PUT))?))
+    Ok(Policy::<NoRule>::is_request_preflight(&head(alloc, (method, &PUT))?))
 }
 
 #[test]
@@ -319,7 +316,7 @@ fn varies(
     value: &[u8],
 ) -> Result<bool, AllocError> {
     let mut headers = list_of(alloc, fields)?;
-    add_vary_header(&mut headers)?;
+    Policy::<NoRule>::add_vary_header(&mut headers)?;
     match headers.get(&VARY) {
         Some(found) => Ok(headers.len() == count && found.as_bytes() == value),
         None => Ok(false),
@@ -374,10 +371,6 @@ fn made(alloc: Global, cors: &Cors<NoRule>) -> Result<Made, AllocError> {
     }
 }
 
-fn shows_law(service: &Made) {
-    middleware_is_cors(service)
-}
-
 fn is_ready(task: &MockTask, service: &Made) -> bool {
     match task.enter(|cx| service.poll_ready(cx)) {
         Poll::Ready(Ok(())) => true,
@@ -388,7 +381,6 @@ fn is_ready(task: &MockTask, service: &Made) -> bool {
 // Whether a service under the empty policy is ready.
 fn made_is_ready(task: &MockTask, alloc: Global) -> Result<bool, AllocError> {
     let service = made(alloc, &Cors::default(alloc))?;
-    shows_law(&service);
     Ok(is_ready(task, &service))
 }
 
