@@ -1,5 +1,6 @@
 //! The middleware.
-ghost use Rattle.std.specs.Prelude.{◌≡◌};
+ghost use Rattle.std.specs.Prelude.{◌≡◌, IfOk};
+ghost use Rattle.service_core.specs.Making.{LiesWithin};
 ghost use Rattle.service_core.specs.Meaning.{GivesOnly};
 ghost use Rattle.cors_answer.specs.Meaning.{UnderPolicy, ReadyBy};
 ghost use Rattle.cors_answer.specs.Shown.{policy_of, service_of};
@@ -34,6 +35,24 @@ impl<S: Clone, G: OriginRule> Clone for CorsMiddleware<S, G> {
             service,
             policy,
         })
+    }
+}
+
+impl<S, G> CorsMiddleware<S, G>
+where
+    S: Service<Request, Response = Response, Error: ErrorResponse> + Clone,
+    G: OriginRule,
+{
+    /// A copy, which shares the policy. It means what this service means, where the copy of the inner service means what
+    /// that service means.
+    pub fn clone(&self) -> Result<CorsMiddleware<S, G>, AllocError>
+        ensures clone { IfOk result (⟦<CorsMiddleware<S, G> as Clone>⟧.is_clone self.now) }
+        ensures meaning { IfOk result (λ copy. LiesWithin S.Service (service_of copy) (S.may (service_of self.now)) (S.may_ready (service_of self.now)) (S.may_begin (service_of self.now))
+            → LiesWithin ⟦<CorsMiddleware<S, G> as Service<Request>>⟧ copy (⟦<CorsMiddleware<S, G> as Service<Request>>⟧.may self.now)
+            (⟦<CorsMiddleware<S, G> as Service<Request>>⟧.may_ready self.now) (⟦<CorsMiddleware<S, G> as Service<Request>>⟧.may_begin self.now)) }
+    {
+        let copy = Clone::clone(self)?;
+        Ok(copy)
     }
 }
 
