@@ -8,7 +8,6 @@ use Rattle.cors_rules.specs.Origins.{Rules}
 use Rattle.cors_rules.specs.Answers.{Verdict, answered, handed_on, verdict}
 use Rattle.service_core.specs.Meaning.{Readiness, Within}
 use Rattle.cors_answer.specs.Meaning.{GivesBy, ReadyBy, UnderPolicy}
-use Rattle.cors_answer.specs.declared.fault.CorsFault.{CorsFault}
 
 module _ {E : Type 0} (response_of : E → Option Response) where
   gives_within : {G : Type 0} (policy : Policy G) (v : Verdict) (P Q : Result Response E → Type 0) → Within P Q
