@@ -1,9 +1,12 @@
 -- What a service under a policy may give.
-use Rattle.std.specs.Prelude.{◌≡◌, ◌⊎◌, ℕ, List, Option, Some, Result, Ok, Err, IfSome}
+use Rattle.std.specs.Prelude.{◌≡◌, ◌⊎◌, ℕ, List, Option, Some, Result, Ok, Err}
 use Rattle.futures.specs.declared.task.Poll.TheVariants.{Ready, Pending}
 use Rattle.http1_grammar.specs.Wire.{Response}
+use Rattle.http1_plain.specs.Views.{view}
+use Rattle.http1_plain.specs.declared.request.Request.{Request}
 use Rattle.cors_rules.specs.Policy.{Policy}
-use Rattle.cors_rules.specs.Answers.{Verdict, answered, handed_on, augmented}
+use Rattle.cors_rules.specs.Origins.{Rules}
+use Rattle.cors_rules.specs.Answers.{Verdict, answered, handed_on, augmented, verdict}
 use Rattle.cors_answer.specs.declared.fault.CorsFault.{CorsFault}
 use Rattle.cors_answer.specs.declared.fault.CorsFault.TheVariants.{Answered, Memory}
 use Rattle.service_core.specs.Meaning.{Readiness}
@@ -32,6 +35,11 @@ abbrev pub GivesBy : {G E : Type 0} → (E → Option Response) → Policy G →
 GivesBy response_of policy inner (answered response) result = OrMemory (result ≡ Ok response) result
 GivesBy response_of policy inner (handed_on grant) result = OrMemory (Wraps response_of policy grant inner result) result
 
+-- what may be given to a request under the policy, where the inner service may give results of `inner`
+abbrev pub UnderPolicy : {G E : Type 0} → (E → Option Response) → Rules G → Policy G → (Result Response E → Type 0) → Request
+    → Result Response CorsFault → Type 0
+UnderPolicy response_of allows policy inner request = GivesBy response_of policy inner (verdict allows policy (view request.head))
+
 -- the inner readiness, with an error's response in its place
 abbrev pub ReadyAs : {E : Type 0} → (E → Option Response) → Readiness E → Readiness CorsFault → Type 0
 ReadyAs response_of Pending answer = answer ≡ Pending
@@ -52,4 +60,5 @@ response_by response_of (Err error) = response_of error
 
 -- each result that has a response has this one
 abbrev pub Responds : {E : Type 0} → (E → Option Response) → (Result Response E → Type 0) → Response → Type 0
-Responds {E} response_of may response = (result : Result Response E) → may result → IfSome (response_by response_of result) (λ r. r ≡ response)
+Responds {E} response_of may response =
+    (result : Result Response E) (given : Response) → may result → response_by response_of result ≡ Some given → given ≡ response

@@ -1,6 +1,5 @@
 //! The future of a request under a policy.
-ghost use Rattle.std.specs.Prelude.{◌≡◌, Ok, Err, IsSome, Some, IfOk};
-ghost use Rattle.cors_rules.specs.Answers.{augmented};
+ghost use Rattle.std.specs.Prelude.{◌≡◌, IsSome, Some};
 ghost use Rattle.std.specs.Arc.{arc_value};
 ghost use Rattle.futures.specs.Poll.{OnPending};
 ghost use Rattle.service_core.specs.Polls.{Polls};
@@ -14,7 +13,7 @@ use futures::Future;
 use futures::task::{Context, Poll};
 use http1_plain::{ErrorResponse, FieldValue, Response};
 use service_core::Watched;
-use std::alloc::{AllocError, Global};
+use std::alloc::Global;
 use std::sync::Arc;
 
 /// Future for `CorsMiddleware`.
@@ -37,19 +36,6 @@ pub(crate) enum State<Fut, G> {
     Done,
 }
 
-// The response, with what the policy writes.
-fn augmented<G>(
-    policy: &Policy<G>,
-    grant: Option<FieldValue>,
-    response: Response,
-) -> Result<Response, AllocError>
-    ensures { IfOk result (λ r. r ≡ augmented policy.now grant response) }
-{
-    let mut response = response;
-    augment_response_headers(policy, grant, response.headers_mut())?;
-    Ok(response)
-}
-
 // The inner service's result, with what the policy writes.
 fn wrapped<G, E: ErrorResponse>(
     alloc: Global,
@@ -60,13 +46,13 @@ fn wrapped<G, E: ErrorResponse>(
     ensures { OrMemory (Augments E.response policy.now grant outcome result) result }
 {
     match outcome {
-        Ok(response) => match augmented(policy, grant, response) {
+        Ok(response) => match augment_response_headers(policy, grant, response) {
             Ok(response) => Ok(response),
             Err(_) => Err(CorsFault::Memory),
         },
         Err(error) => match error.into_response(alloc) {
             Err(_) => Err(CorsFault::Memory),
-            Ok(response) => match augmented(policy, grant, response) {
+            Ok(response) => match augment_response_headers(policy, grant, response) {
                 Ok(response) => Err(CorsFault::Answered(response)),
                 Err(_) => Err(CorsFault::Memory),
             },

@@ -1,10 +1,9 @@
 //! The middleware.
-ghost use Rattle.std.specs.Prelude.{◌≡◌, Ok, Err, IsSome, Some, ⊤};
-ghost use Rattle.std.specs.Arc.{arc_value};
-ghost use Rattle.http1_plain.specs.Views.{view};
+ghost use Rattle.std.specs.Prelude.{◌≡◌, IfOk};
+ghost use Rattle.service_core.specs.Making.{LiesWithin};
 ghost use Rattle.service_core.specs.Meaning.{GivesOnly};
-ghost use Rattle.cors_rules.specs.Answers.{verdict};
-ghost use Rattle.cors_answer.specs.Meaning.{GivesBy, ReadyBy};
+ghost use Rattle.cors_answer.specs.Meaning.{UnderPolicy, ReadyBy};
+ghost use Rattle.cors_answer.specs.Shown.{policy_of, service_of};
 
 use crate::fault::CorsFault;
 use crate::future::{CorsFuture, State};
@@ -14,15 +13,47 @@ use futures::Future;
 use futures::task::{Context, Poll};
 use http1_plain::{ErrorResponse, Request, Response};
 use service_core::{Service, Watched};
-use std::alloc::Global;
+use std::alloc::{AllocError, Global};
 use std::sync::Arc;
 
-/// A service under a policy.
+/// A service under a policy (`CorsMiddleware` of the crate actix-cors).
 #[derive(Drop)]
 pub struct CorsMiddleware<S, G> {
     pub(crate) alloc: Global,
     pub(crate) service: S,
     pub(crate) policy: Arc<Policy<G>>,
+}
+
+impl<S: Clone, G: OriginRule> Clone for CorsMiddleware<S, G> {
+    ghost is_clone = { λ m copy. S.is_clone (service_of m) (service_of copy) × (policy_of copy ≡ policy_of m) };
+
+    fn clone(&self) -> Result<CorsMiddleware<S, G>, AllocError> {
+        let service = self.service.clone()?;
+        let policy = Arc::try_clone(&self.policy)?;
+        Ok(CorsMiddleware {
+            alloc: self.alloc,
+            service,
+            policy,
+        })
+    }
+}
+
+impl<S, G> CorsMiddleware<S, G>
+where
+    S: Service<Request, Response = Response, Error: ErrorResponse> + Clone,
+    G: OriginRule,
+{
+    /// A copy, which shares the policy. It means what this service means, where the copy of the inner service means what
+    /// that service means.
+    pub fn clone(&self) -> Result<CorsMiddleware<S, G>, AllocError>
+        ensures clone { IfOk result (⟦<CorsMiddleware<S, G> as Clone>⟧.is_clone self.now) }
+        ensures meaning { IfOk result (λ copy. LiesWithin S.Service (service_of copy) (S.may (service_of self.now)) (S.may_ready (service_of self.now)) (S.may_begin (service_of self.now))
+            → LiesWithin ⟦<CorsMiddleware<S, G> as Service<Request>>⟧ copy (⟦<CorsMiddleware<S, G> as Service<Request>>⟧.may self.now)
+            (⟦<CorsMiddleware<S, G> as Service<Request>>⟧.may_ready self.now) (⟦<CorsMiddleware<S, G> as Service<Request>>⟧.may_begin self.now)) }
+    {
+        let copy = Clone::clone(self)?;
+        Ok(copy)
+    }
 }
 
 impl<S, G> Service<Request> for CorsMiddleware<S, G>
@@ -36,16 +67,14 @@ where
 
     type Future = CorsFuture<S::Future, G>;
 
-    ghost can_call = { λ m. S.can_call m.service };
+    ghost can_call = { λ m. S.can_call (service_of m) };
 
-    ghost may = { λ m q. GivesBy S.Error.response (arc_value m.policy) (S.may m.service q)
-        (verdict G.allowed (arc_value m.policy) (view q.head)) };
+    ghost may = { λ m q. UnderPolicy S.Error.response G.allowed (policy_of m) (S.may (service_of m) q) q };
 
     ghost may_begin = { λ m q f. GivesOnly ⟦<CorsFuture<S::Future, G> as Future>⟧ f
-        (GivesBy S.Error.response (arc_value m.policy) (S.may m.service q)
-        (verdict G.allowed (arc_value m.policy) (view q.head))) };
+        (UnderPolicy S.Error.response G.allowed (policy_of m) (S.may (service_of m) q) q) };
 
-    ghost may_ready = { λ m. ReadyBy S.Error.response (S.may_ready m.service) };
+    ghost may_ready = { λ m. ReadyBy S.Error.response (S.may_ready (service_of m)) };
 
     ghost begun_gives = { λ s q f h. h };
 

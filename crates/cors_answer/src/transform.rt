@@ -1,11 +1,9 @@
 //! The transform.
 ghost use Rattle.std.specs.Prelude.{◌≡◌, Some, None, IfOk};
-ghost use Rattle.http1_plain.specs.Views.{view};
-ghost use Rattle.cors_rules.specs.Answers.{verdict};
-ghost use Rattle.cors_answer.specs.Meaning.{GivesBy, ReadyBy};
+ghost use Rattle.cors_answer.specs.Meaning.{UnderPolicy, ReadyBy};
+ghost use Rattle.cors_answer.specs.Shown.{policy_of, service_of};
 ghost use Rattle.cors_rules.specs.Refusing.{config_error};
 ghost use Rattle.cors_answer.specs.Transforms.{Refuses};
-ghost use Rattle.std.specs.Arc.{arc_value};
 
 use crate::cors::Cors;
 use crate::fault::CorsFault;
@@ -22,7 +20,7 @@ impl<G: OriginRule> Cors<G> {
     fn middleware<S>(&self, service: S) -> Result<CorsMiddleware<S, G>, AllocError>
     where
         S: Drop,
-        ensures { IfOk result (λ m. (m.service ≡ service) × (arc_value m.policy ≡ self.now.policy)) }
+        ensures { IfOk result (λ m. (service_of m ≡ service) × (policy_of m ≡ self.now.policy)) }
     {
         let policy = Arc::new(self.alloc, self.policy.copy(self.alloc)?)?;
         Ok(CorsMiddleware {
@@ -50,7 +48,7 @@ where
 
     ghost can_make = { λ c s. S.can_call s };
 
-    ghost may = { λ c s q. GivesBy S.Error.response c.policy (S.may s q) (verdict G.allowed c.policy (view q.head)) };
+    ghost may = { λ c s q. UnderPolicy S.Error.response G.allowed c.policy (S.may s q) q };
 
     ghost may_ready = { λ c s. ReadyBy S.Error.response (S.may_ready s) };
 

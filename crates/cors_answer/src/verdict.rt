@@ -7,7 +7,7 @@ ghost use Rattle.cors_answer.specs.Verdicts.{verdict_of};
 
 use crate::preflight::answer_preflight;
 use crate::refusal::CorsRefusal;
-use cors_policy::{OriginRule, Policy, is_request_preflight, vary_where};
+use cors_policy::{OriginRule, Policy, vary_where};
 use cors_rules::CorsError;
 use http_header::ORIGIN;
 use http1_plain::{ErrorResponse, FieldValue, RequestHead, Response};
@@ -69,7 +69,7 @@ pub(crate) fn decide<G: OriginRule>(
 ) -> Result<Verdict, AllocError>
     ensures { IfOk result (λ v. verdict_of v ≡ verdict G.allowed policy.now (view head.now)) }
 {
-    if policy.preflight && is_request_preflight(head) {
+    if policy.preflight && Policy::<G>::is_request_preflight(head) {
         Ok(Verdict::Answered(answer_preflight(policy, alloc, head)?))
     } else {
         by_grant(policy, alloc, head)

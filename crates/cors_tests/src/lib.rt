@@ -12,6 +12,8 @@ mod empty_answers;
 #[cfg(test)]
 mod inner;
 #[cfg(test)]
+mod law_tests;
+#[cfg(test)]
 mod policies;
 #[cfg(test)]
 mod requests;

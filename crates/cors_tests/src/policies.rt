@@ -9,11 +9,8 @@ use crate::building::Call::{
 };
 use crate::building::{Call, after, built};
 use crate::inner::Inner;
-use cors_answer::laws::middleware_is_cors;
 use cors_answer::{Cors, CorsFault, CorsInitError, CorsMiddleware, CorsRefusal};
-use cors_policy::{
-    ConfigError, CorsError, NoRule, OriginRule, Policy, add_vary_header, is_request_preflight,
-};
+use cors_policy::{ConfigError, CorsError, NoRule, OriginRule, Policy};
 use futures::task::Poll;
 use futures::test::MockTask;
 use http::method::Method;
@@ -323,7 +320,7 @@ const PUT: [(&str, &str); 3] = [
 ];
 
 fn is_preflight(alloc: Global, method: Method) -> Result<bool, AllocError> {
-    Ok(is_request_preflight(&head(alloc, (method, &PUT))?))
+    Ok(Policy::<NoRule>::is_request_preflight(&head(alloc, (method, &PUT))?))
 }
 
 #[test]
@@ -411,7 +408,7 @@ fn varies_once_added(
     count: usize,
     value: &[u8],
 ) -> Result<bool, AllocError> {
-    add_vary_header(headers)?;
+    Policy::<NoRule>::add_vary_header(headers)?;
     Ok(has_vary(headers, count, value))
 }
 
@@ -460,10 +457,6 @@ fn a_fault_answers_with_its_response(rt: HostRuntime) -> Result<(), Fail> {
     Ok(())
 }
 
-fn shows_law(service: &Made) {
-    middleware_is_cors(service)
-}
-
 fn is_ready(task: &MockTask, service: &Made) -> bool {
     match task.enter(|cx| service.poll_ready(cx)) {
         Poll::Ready(Ok(())) => true,
@@ -471,15 +464,10 @@ fn is_ready(task: &MockTask, service: &Made) -> bool {
     }
 }
 
-fn law_and_ready(task: &MockTask, service: &Made) -> bool {
-    shows_law(service);
-    is_ready(task, service)
-}
-
 // Whether the service is made and ready.
 fn is_made_ready(task: &MockTask, made: &Result<Made, CorsInitError>) -> Result<bool, AllocError> {
     match made {
-        Ok(service) => Ok(law_and_ready(task, service)),
+        Ok(service) => Ok(is_ready(task, service)),
         Err(_) => Err(AllocError),
     }
 }

@@ -1,0 +1,2 @@
+pub mod PolicySteps
+pub mod CopySteps
