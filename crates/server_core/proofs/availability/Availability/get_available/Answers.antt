@@ -1,4 +1,4 @@
-use Rattle.std.proofs.Common.{ap, sym, ◌∙◌}
+use Rattle.std.proofs.Common.{ap, ◌∙◌}
 use Rattle.std.specs.FinSet.{contains}
 use Rattle.server_core.proofs.Marks.{contains_view_in, member_below}
 use Rattle.server_core.proofs.availability.Availability.get_available.Goals as goal
