@@ -1,20 +1,19 @@
 -- A meaning made of wider parts is wider.
 use Rattle.std.proofs.Common.{Result, Ok, Err, inl, inr}
 use Rattle.std.specs.Prelude.{⊤}
-use Rattle.service_core.specs.Meaning.{Within, Readiness}
+use Rattle.service_core.specs.Meaning.{Follows, Readiness, Within}
 use Rattle.service_core.specs.Making.{LiesWithin, Makes}
 use Rattle.service_core.specs.declared.service.Service.{Ghosts as ServiceOf}
-use Rattle.service_combine.specs.Meaning.{Follows, OrRefused}
+use Rattle.service_combine.specs.Meaning.{OrRefused}
 use Rattle.service_combine.specs.Making.{WithPart}
-use Rattle.service_combine.specs.Configuring.{GivesCallable, OfGiven}
-use Rattle.service_core.specs.Closures.{GivenBy}
+use Rattle.service_combine.specs.Configuring.{GivesCallable, OfOk}
 use Rattle.futures.specs.declared.future.Future.{Ghosts as FutureOf}
 use Rattle.service_combine.specs.Readying.{ReadyErrBy}
 use Rattle.futures.specs.declared.task.Poll.TheVariants.{Ready, Pending}
 
 pub Follows-within : {A B : Type 0} (P Q : A → Type 0) (next : A → B → Type 0)
     → Within P Q → (r : B) → Follows P next r → Follows Q next r
-Follows-within P Q next within r m = record { from = m.from; given = within m.from m.given; goes = m.goes }
+Follows-within P Q next within r m = record { value = m.value; comes = within m.value m.comes; holds = m.holds }
 
 pub OrRefused-within : {A E : Type 0} (P Q : Result A E → Type 0) (refusal : E)
     → Within P Q → (r : Result A E) → OrRefused P refusal r → OrRefused Q refusal r
@@ -54,19 +53,21 @@ WithPart-pair a b holds P (Err e) p = p
 
 module _ {S Q R E F Fut I : Type 0} (s : ServiceOf S Q R E F) (g : FutureOf Fut (Result S I)) (answers : Fut → Type 0)
     (callable : GivesCallable g s.can_call answers) (f : Fut) (answered : answers f) where
+  abbrev Given : Result S I → Type 0
+  Given = Follows answers g.gives
+
   -- what a future of `answers` gives is a service that such a future gives
-  pub Makes-given : Within (g.gives f) (Makes s (λ q r. OfGiven g answers (λ made. s.may made q r))
-      (λ a. OfGiven g answers (λ made. s.may_ready made a)) (λ q fut. OfGiven g answers (λ made. s.may_begin made q fut))
-      (OfGiven g answers (λ _. ⊤)) (λ e. GivenBy g answers (Err e)))
+  pub Makes-given : Within (g.gives f) (Makes s (λ q. OfOk Given (λ made. s.may made q))
+      (OfOk Given (λ made. s.may_ready made)) (λ q. OfOk Given (λ made. s.may_begin made q))
+      ((made : S) × Given (Ok made)) (λ e. Given (Err e)))
   Makes-given (Ok made) given =
-      let of : (P : S → Type 0) → P made → OfGiven g answers P =
-      (λ P holds. record { future = f; answered = answered; service = made; given = given; holds = holds }) in (
-        of _ tt,
+      let comes : Given (Ok made) = record { value = f; comes = answered; holds = given } in (
+        (made, comes),
         record {
           callable = callable.callable f made answered given;
-          answers = λ q r h. of _ h;
-          readiness = λ a h. of _ h;
-          futures = λ q fut h. of _ h;
+          answers = λ q r h. record { value = made; comes = comes; holds = h };
+          readiness = λ a h. record { value = made; comes = comes; holds = h };
+          futures = λ q fut h. record { value = made; comes = comes; holds = h };
         },
       )
-  Makes-given (Err e) given = record { future = f; answered = answered; gives = given }
+  Makes-given (Err e) given = record { value = f; comes = answered; holds = given }

@@ -1,26 +1,20 @@
 -- What is made of a pair of services lies within what their makers say.
-use Rattle.std.proofs.Common.{Result, Ok, Err, inl, inr}
+use Rattle.std.proofs.Common.{◌≡◌, Result, Ok, Err, inl, inr, refl, rules}
 use Rattle.std.specs.Prelude.{⊤}
 use Rattle.futures.specs.declared.task.Poll.TheVariants.{Ready, Pending}
-use Rattle.service_core.specs.Meaning.{Within, Readiness}
+use Rattle.service_core.specs.Meaning.{Follows, Readiness, Through, Within}
 use Rattle.service_core.specs.Making.{LiesWithin, Makes}
 use Rattle.service_core.specs.declared.service.Service.{Ghosts as ServiceOf}
-use Rattle.service_combine.specs.Meaning.{Chained, Follows, OkThen}
-use Rattle.service_combine.specs.Making.{MadeOr, WithPart}
+use Rattle.service_combine.specs.Meaning.{Chained, OkThen, OrRefused}
+use Rattle.service_combine.specs.Making.{WithPart}
 use Rattle.service_combine.specs.Pairing.{BothGive}
-use Rattle.service_combine.specs.Readying.{BothReady, MayPass}
-
-pub MadeOr-within : {T I : Type 0} (P Q : Result T I → Type 0) (refusal : I)
-    → Within P Q → (r : Result T I) → MadeOr P refusal r → MadeOr Q refusal r
-MadeOr-within P Q refusal within (Ok made) p = within (Ok made) p
-MadeOr-within P Q refusal within (Err e) (inl p) = inl (within (Err e) p)
-MadeOr-within P Q refusal within (Err e) (inr is) = inr is
+use Rattle.service_combine.specs.Readying.{BothReady, IsNoErr}
 
 pub Follows-both : {A B : Type 0} (P Q : A → Type 0) (next wider : A → B → Type 0)
     → Within P Q → ((x : A) → Within (next x) (wider x)) → (r : B) → Follows P next r → Follows Q wider r
-Follows-both P Q next wider within goes r m = record { from = m.from; given = within m.from m.given; goes = goes m.from r m.goes }
+Follows-both P Q next wider within goes r m = record { value = m.value; comes = within m.value m.comes; holds = goes m.value r m.holds }
 
-OkThen-within : {A B E : Type 0} (second wider : A → Result B E → Type 0) → ((y : A) → Within (second y) (wider y))
+pub OkThen-within : {A B E : Type 0} (second wider : A → Result B E → Type 0) → ((y : A) → Within (second y) (wider y))
     → (from : Result A E) (r : Result B E) → OkThen second from r → OkThen wider from r
 OkThen-within second wider within from r (inl ok) = inl (ok.0, ok.1, within ok.0 r ok.2)
 OkThen-within second wider within from r (inr err) = inr err
@@ -31,16 +25,19 @@ Chained-both P Q second wider within goes r m =
     Follows-both P Q (OkThen second) (OkThen wider) within (OkThen-within second wider goes) r m
 
 module _ {E : Type 0} where
-  MayPass-within : (P Q : Readiness E → Type 0) → Within P Q → MayPass P → MayPass Q
-  MayPass-within P Q within p = record { answer = p.answer; given = within p.answer p.given; passes = p.passes }
+  pub passes-within : (P Q : Readiness E → Type 0) → Within P Q → Through P IsNoErr → Through Q IsNoErr
+  passes-within P Q within p = record { value = p.value; comes = within p.value p.comes; holds = p.holds }
 
   pub BothReady-within : (P Q R S : Readiness E → Type 0) → Within P Q → Within R S
       → (a : Readiness E) → BothReady P R a → BothReady Q S a
   BothReady-within P Q R S first second (Ready (Ok u)) b = (first _ b.0, second _ b.1)
   BothReady-within P Q R S first second (Ready (Err e)) (inl p) = inl (first _ p)
-  BothReady-within P Q R S first second (Ready (Err e)) (inr p) = inr (MayPass-within P Q first p.0, second _ p.1)
+  BothReady-within P Q R S first second (Ready (Err e)) (inr p) = inr (passes-within P Q first p.0, second _ p.1)
   BothReady-within P Q R S first second Pending (inl p) = inl (first _ p.0, second _ p.1)
-  BothReady-within P Q R S first second Pending (inr p) = inr (first _ p.0, MayPass-within R S second p.1)
+  BothReady-within P Q R S first second Pending (inr p) = inr (first _ p.0, passes-within R S second p.1)
+
+same-error : {T I : Type 0} (r : Result T I) (d e : I) → r ≡ Err d → r ≡ Err e → d ≡ e
+same-error r d e one other = cc
 
 module _ {S T U Q Q' Q'' R R' R'' E E' E'' F F' F'' I : Type 0}
     (one : ServiceOf S Q R E F) (other : ServiceOf T Q' R' E' F') (pair : ServiceOf U Q'' R'' E'' F'')
@@ -59,11 +56,13 @@ module _ {S T U Q Q' Q'' R R' R'' E E' E'' F F' F'' I : Type 0}
       → LiesWithin other (parts made).1 may-other ready-other begin-other → LiesWithin pair made may ready begin)
       → (make-one → make-other → make)
       → Within init-one init → Within init-other init → init refusal
-      → Within (MadeOr (WithPart parts (λ _. ⊤) (BothGive P P')) refusal) (Makes pair may ready begin make init)
-  Makes-pair P P' first second lies makes errs errs-too refused (Ok made) w =
+      → Within (OrRefused (WithPart parts (λ _. ⊤) (BothGive P P')) refusal) (Makes pair may ready begin make init)
+  Makes-pair P P' first second lies makes errs errs-too refused (Ok made) (inl w) =
       let a = first (Ok (parts made).0) w.0.0 in
       let b = second (Ok (parts made).1) w.0.1 in
       (makes a.0 b.0, lies made a.1 b.1)
+  Makes-pair P P' first second lies makes errs errs-too refused (Ok made) (inr is) =
+      let no : Ok made ≡ Err refusal = is in search rules
   Makes-pair P P' first second lies makes errs errs-too refused (Err e) (inl (inl p)) = errs e (first (Err e) p)
   Makes-pair P P' first second lies makes errs errs-too refused (Err e) (inl (inr p)) = errs-too e (second (Err e) p)
-  Makes-pair P P' first second lies makes errs errs-too refused (Err e) (inr is) = rw is refused
+  Makes-pair P P' first second lies makes errs errs-too refused (Err e) (inr is) = rw (same-error (Err e) e refusal refl is) refused

@@ -1,4 +1,6 @@
+pub mod Shown
 pub mod Meaning
+pub mod Equations
 pub mod Readying
 pub mod Waits
 pub mod Applying

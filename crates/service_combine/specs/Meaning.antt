@@ -1,15 +1,10 @@
 -- What a combinator's calls may give, by what its parts' calls may give.
 use Rattle.std.specs.Prelude.{◌≡◌, ◌⊎◌, Result, Ok, Err}
+use Rattle.service_core.specs.Meaning.{Follows}
 
 -- a result of P, or the error that stands for want of memory
 abbrev pub OrRefused : {A E : Type 0} → (Result A E → Type 0) → E → Result A E → Type 0
 OrRefused P refusal r = P r ⊎ (r ≡ Err refusal)
-
--- some result of P, from which `next` goes to r
-pub record Follows {A B : Type 0} (P : A → Type 0) (next : A → B → Type 0) (r : B) : Type 0 where
-  pub from : A
-  pub given : P from
-  pub goes : next from r
 
 -- r is the result `from` with an Ok changed to what `turned` allows
 abbrev pub OkBy : {A B E : Type 0} → (A → B → Type 0) → Result A E → Result B E → Type 0
@@ -39,3 +34,15 @@ MappedErr P turned = Follows P (ErrBy turned)
 -- `and_then`: an Err of P, or what the second part gives for an Ok of P
 abbrev pub Chained : {A B E : Type 0} → (Result A E → Type 0) → (A → Result B E → Type 0) → Result B E → Type 0
 Chained P second = Follows P (OkThen second)
+
+-- e is an error of P
+abbrev pub Errs : {A E : Type 0} → (Result A E → Type 0) → E → Type 0
+Errs P e = P (Err e)
+
+-- P has nothing but errors
+abbrev pub OnlyErrs : {A E : Type 0} → (Result A E → Type 0) → Type 0
+OnlyErrs {A} P = (y : A) → P (Ok y) → ⊥
+
+-- r is the error e
+abbrev pub IsErr : {A E : Type 0} → E → Result A E → Type 0
+IsErr e r = r ≡ Err e

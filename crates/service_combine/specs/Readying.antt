@@ -1,7 +1,7 @@
 -- What a combinator's readiness may answer, by what its parts' readiness may answer.
 use Rattle.std.specs.Prelude.{◌⊎◌, ⊤, Ok, Err}
 use Rattle.futures.specs.declared.task.Poll.TheVariants.{Ready, Pending}
-use Rattle.service_core.specs.Meaning.{Readiness}
+use Rattle.service_core.specs.Meaning.{Readiness, Through}
 
 -- it is ready or pending
 abbrev pub IsNoErr : {E : Type 0} → Readiness E → Type 0
@@ -9,17 +9,11 @@ IsNoErr (Ready (Ok u)) = ⊤
 IsNoErr (Ready (Err e)) = ⊥
 IsNoErr Pending = ⊤
 
--- P may answer otherwise than by an error
-pub record MayPass {E : Type 0} (P : Readiness E → Type 0) : Type 0 where
-  pub answer : Readiness E
-  pub given : P answer
-  pub passes : IsNoErr answer
-
 -- The readiness of two parts: the first one's error, else the second one's; ready where both are; else pending.
 abbrev pub BothReady : {E : Type 0} → (Readiness E → Type 0) → (Readiness E → Type 0) → Readiness E → Type 0
 BothReady P Q (Ready (Ok u)) = P (Ready (Ok tt)) × Q (Ready (Ok tt))
-BothReady P Q (Ready (Err e)) = P (Ready (Err e)) ⊎ (MayPass P × Q (Ready (Err e)))
-BothReady P Q Pending = (P (Ready (Ok tt)) × Q Pending) ⊎ (P Pending × MayPass Q)
+BothReady P Q (Ready (Err e)) = P (Ready (Err e)) ⊎ (Through P IsNoErr × Q (Ready (Err e)))
+BothReady P Q Pending = (P (Ready (Ok tt)) × Q Pending) ⊎ (P Pending × Through Q IsNoErr)
 
 -- readiness of P with an error changed to what `turned` allows
 abbrev pub ReadyErrBy : {E G : Type 0} → (E → G → Type 0) → (Readiness E → Type 0) → Readiness G → Type 0

@@ -1,6 +1,7 @@
 -- What it is for a copy to mean what its original means.
-use Rattle.service_core.specs.Meaning.{Within}
-use Rattle.service_combine.specs.Configuring.{Through}
+use Rattle.service_core.specs.Meaning.{Follows, Within}
+use Rattle.service_combine.specs.Applying.{Answers, MayBeLent}
+use denote.Ref.{Bor}
 use Rattle.service_core.specs.declared.service.Service.{Ghosts as ServiceOf}
 use Rattle.service_core.specs.declared.service_factory.ServiceFactory.{Ghosts as FactoryOf}
 use Rattle.service_core.specs.declared.transform.Transform.{Ghosts as TransformOf}
@@ -15,6 +16,11 @@ pub record MeansSame {S Q R E F : Type 0} (g : ServiceOf S Q R E F) (s copy : S)
   pub answers : (q : Q) → Alike (g.may copy q) (g.may s q)
   pub readiness : Alike (g.may_ready copy) (g.may_ready s)
   pub futures : (q : Q) → Alike (g.may_begin copy q) (g.may_begin s q)
+
+-- with either service lent, the closure may be called alike, and answers alike
+pub record TakesSame {S Q F : Type 0} (pre : Q → Bor S → Type 0) (post : Q → Bor S → F → Type 0) (s copy : S) : Type 0 where
+  pub callable : (MayBeLent pre copy → MayBeLent pre s) × (MayBeLent pre s → MayBeLent pre copy)
+  pub answers : (q : Q) → Alike (Answers post copy q) (Answers post s q)
 
 -- as a factory
 pub record MakesSame {M Q R E C S I U F : Type 0} (g : FactoryOf M Q R E C S I U F) (f copy : M) : Type 0 where
@@ -35,4 +41,4 @@ pub record WrapsSame {T S Q R E W I U F : Type 0} (g : TransformOf T S Q R E W I
 
 -- h goes from x to z exactly where f goes from x to some y and g from there to z
 abbrev pub IsThrough : {X Y Z : Type 0} → (X → Y → Type 0) → (Y → Z → Type 0) → (X → Z → Type 0) → Type 0
-IsThrough {X} {Y} {Z} f g h = (x : X) (z : Z) → (h x z → Through (f x) (λ y. g y z)) × (Through (f x) (λ y. g y z) → h x z)
+IsThrough {X} {Y} {Z} f g h = (x : X) (z : Z) → (h x z → Follows (f x) g z) × (Follows (f x) g z → h x z)

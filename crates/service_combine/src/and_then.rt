@@ -1,10 +1,12 @@
 ghost use Rattle.std.specs.Prelude.{◌≡◌, IfOk};
 ghost use Rattle.std.specs.Arc.{arc_value};
 ghost use Rattle.service_core.specs.Meaning.{GivesOnly};
-ghost use Rattle.service_combine.specs.Meaning.{Chained, OrRefused};
+ghost use Rattle.service_combine.specs.Equations.{AndThenMay};
 ghost use Rattle.service_combine.specs.Readying.{BothReady};
+ghost use Rattle.service_combine.specs.Shown.{and_then_first, and_then_second};
 
 use crate::AndThenServiceResponse;
+use crate::both_ready::both_ready;
 use crate::two_stages::TwoStages;
 use futures::Future;
 use futures::task::{Context, Poll};
@@ -44,7 +46,7 @@ where
 }
 
 impl<A: Drop, B: Drop, Req> Clone for AndThenService<A, B, Req> {
-    ghost is_clone = { λ s copy. arc_value copy.parts ≡ arc_value s.parts };
+    ghost is_clone = { λ s copy. (and_then_first copy ≡ and_then_first s) × (and_then_second copy ≡ and_then_second s) };
 
     fn clone(&self) -> Result<AndThenService<A, B, Req>, AllocError> {
         let parts = Arc::try_clone(&self.parts)?;
@@ -67,29 +69,19 @@ where
 
     type Future = AndThenServiceResponse<A, B, Req>;
 
-    ghost can_call = { λ s. A.can_call (arc_value s.parts).0 × B.can_call (arc_value s.parts).1 };
+    ghost can_call = { λ s. A.can_call (and_then_first s) × B.can_call (and_then_second s) };
 
-    ghost may = { λ s q. OrRefused (Chained (A.may (arc_value s.parts).0 q) (B.may (arc_value s.parts).1))
-        A.Error.refusal };
+    ghost may = { AndThenMay A.Service B.Service A.Error.refusal };
 
     ghost may_begin = { λ s q f. GivesOnly ⟦<AndThenServiceResponse<A, B, Req> as Future>⟧ f
-        (OrRefused (Chained (A.may (arc_value s.parts).0 q) (B.may (arc_value s.parts).1)) A.Error.refusal) };
+        (AndThenMay A.Service B.Service A.Error.refusal s q) };
 
-    ghost may_ready = { λ s. BothReady (A.may_ready (arc_value s.parts).0) (B.may_ready (arc_value s.parts).1) };
+    ghost may_ready = { λ s. BothReady (A.may_ready (and_then_first s)) (B.may_ready (and_then_second s)) };
 
     ghost begun_gives = { λ s q f begun. begun };
 
     fn poll_ready(&self, cx: &mut Context<'_>) -> Poll<Result<(), A::Error>> {
-        let (first, second) = &*self.parts;
-        match first.poll_ready(cx) {
-            Poll::Ready(Err(e)) => Poll::Ready(Err(e)),
-            Poll::Ready(Ok(())) => second.poll_ready(cx),
-            Poll::Pending => match second.poll_ready(cx) {
-                Poll::Ready(Err(e)) => Poll::Ready(Err(e)),
-                Poll::Ready(Ok(())) => Poll::Pending,
-                Poll::Pending => Poll::Pending,
-            },
-        }
+        both_ready::<A, B, Req, A::Response>(&self.parts.0, &self.parts.1, cx)
     }
 
     fn call(&self, req: Req) -> AndThenServiceResponse<A, B, Req> {

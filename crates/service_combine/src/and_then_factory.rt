@@ -1,9 +1,9 @@
 ghost use Rattle.std.specs.Prelude.{◌≡◌, ◌⊎◌, IfOk};
 ghost use Rattle.std.specs.Arc.{arc_value};
-ghost use Rattle.service_core.specs.Meaning.{GivesOnly};
-ghost use Rattle.service_combine.specs.Configuring.{Through};
-ghost use Rattle.service_combine.specs.Meaning.{Chained, OrRefused};
+ghost use Rattle.service_core.specs.Meaning.{Follows, GivesOnly, Through};
+ghost use Rattle.service_combine.specs.Equations.{AndThenMakes};
 ghost use Rattle.service_combine.specs.Readying.{BothReady};
+ghost use Rattle.service_combine.specs.Shown.{and_then_first_factory, and_then_second_factory};
 
 use crate::both::Both;
 use crate::half::Half;
@@ -49,7 +49,7 @@ where
 }
 
 impl<A: Drop, B: Drop, Req> Clone for AndThenServiceFactory<A, B, Req> {
-    ghost is_clone = { λ f copy. arc_value copy.parts ≡ arc_value f.parts };
+    ghost is_clone = { λ f copy. (and_then_first_factory copy ≡ and_then_first_factory f) × (and_then_second_factory copy ≡ and_then_second_factory f) };
 
     fn clone(&self) -> Result<AndThenServiceFactory<A, B, Req>, AllocError> {
         let parts = Arc::try_clone(&self.parts)?;
@@ -87,25 +87,19 @@ where
 
     type Future = AndThenServiceFactoryResponse<A, B, Req>;
 
-    ghost can_make = { λ f. A.can_make (arc_value f.parts).0 × B.can_make (arc_value f.parts).1 };
+    ghost can_make = { λ f. A.can_make (and_then_first_factory f) × B.can_make (and_then_second_factory f) };
 
-    ghost may = { λ f c q. OrRefused (Chained
-        (λ r. Through (A.Config.is_clone c) (λ copy. A.may (arc_value f.parts).0 copy q r))
-        (B.may (arc_value f.parts).1 c)) A.Error.refusal };
+    ghost may = { AndThenMakes A.ServiceFactory B.ServiceFactory A.Config.is_clone A.Error.refusal };
 
-    ghost may_ready = { λ f c. BothReady
-        (λ a. Through (A.Config.is_clone c) (λ copy. A.may_ready (arc_value f.parts).0 copy a))
-        (B.may_ready (arc_value f.parts).1 c) };
+    ghost may_ready = { λ f c. BothReady (Follows (A.Config.is_clone c) (A.may_ready (and_then_first_factory f))) (B.may_ready (and_then_second_factory f) c) };
 
     ghost may_begin = { λ f c q fut. GivesOnly ⟦<AndThenServiceResponse<A::Service, B::Service, Req> as Future>⟧ fut
-        (OrRefused (Chained (λ r. Through (A.Config.is_clone c) (λ copy. A.may (arc_value f.parts).0 copy q r))
-        (B.may (arc_value f.parts).1 c)) A.Error.refusal) };
+        (AndThenMakes A.ServiceFactory B.ServiceFactory A.Config.is_clone A.Error.refusal f c q) };
 
-    ghost may_init = { λ f c e. Through (A.Config.is_clone c) (λ copy. A.may_init (arc_value f.parts).0 copy e)
-        ⊎ (B.may_init (arc_value f.parts).1 c e ⊎ (e ≡ A.InitError.refusal)) };
+    ghost may_init = { λ f c e. Follows (A.Config.is_clone c) (A.may_init (and_then_first_factory f)) e
+        ⊎ (B.may_init (and_then_second_factory f) c e ⊎ (e ≡ A.InitError.refusal)) };
 
-    ghost may_make = { λ f c. Through (A.Config.is_clone c) (A.may_make (arc_value f.parts).0)
-        × B.may_make (arc_value f.parts).1 c };
+    ghost may_make = { λ f c. Through (A.Config.is_clone c) (A.may_make (and_then_first_factory f)) × B.may_make (and_then_second_factory f) c };
 
     ghost begun_gives = { λ f c q fut begun. begun };
 

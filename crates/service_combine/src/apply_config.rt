@@ -1,9 +1,7 @@
-ghost use Rattle.std.specs.Prelude.{◌≡◌, ⊤, Err as Fails, IfOk};
-ghost use Rattle.std.specs.Arc.{arc_value};
-ghost use Rattle.service_core.specs.Closures.{GivenBy};
-ghost use Rattle.service_combine.specs.Applying.{Answers};
-ghost use Rattle.service_combine.specs.Configuring.{GivesCallable, OfGiven};
-ghost use denote.Ref.{Bor};
+ghost use Rattle.std.specs.Prelude.{◌≡◌, Ok as Gives, Err as Fails, IfOk};
+ghost use Rattle.service_combine.specs.Applying.{Answers, LentGives, MayBeLent};
+ghost use Rattle.service_combine.specs.Configuring.{GivesCallable, OfOk};
+ghost use Rattle.service_combine.specs.Shown.{apply_cfg_closure, apply_cfg_part};
 
 use futures::Future;
 use service_core::{Service, ServiceFactory};
@@ -24,7 +22,7 @@ where
     F: Fn(Cfg, &S1) -> Fut + Drop,
     Fut: Future<Output = Result<S2, Err>>,
     S2: Service<Req>,
-    ensures { IfOk result (λ a. arc_value a.srv ≡ (srv, f)) }
+    ensures { IfOk result (λ a. (apply_cfg_part a ≡ srv) × (apply_cfg_closure a ≡ f)) }
 {
     let srv = Arc::new(alloc, (srv, f))?;
     Ok(ApplyConfigService {
@@ -44,7 +42,7 @@ pub struct ApplyConfigService<S1, Req, F, Cfg, Fut, S2, Err> {
 
 impl<S1: Drop, Req, F: Drop, Cfg, Fut, S2, Err> Clone
     for ApplyConfigService<S1, Req, F, Cfg, Fut, S2, Err> {
-    ghost is_clone = { λ a copy. arc_value copy.srv ≡ arc_value a.srv };
+    ghost is_clone = { λ a copy. (apply_cfg_part copy ≡ apply_cfg_part a) × (apply_cfg_closure copy ≡ apply_cfg_closure a) };
 
     fn clone(&self) -> Result<ApplyConfigService<S1, Req, F, Cfg, Fut, S2, Err>, AllocError> {
         let srv = Arc::try_clone(&self.srv)?;
@@ -75,33 +73,22 @@ where
 
     type Future = Fut;
 
-    ghost can_make = { λ a. ((c : Cfg) (lent : Bor S1) → lent.now ≡ (arc_value a.srv).0 → F.pre (arc_value a.srv).1 c lent)
-        × ((c : Cfg) → GivesCallable Fut.Future S2.can_call (Answers (F.post (arc_value a.srv).1) (arc_value a.srv).0 c)) };
+    ghost can_make = { λ a. MayBeLent (F.pre (apply_cfg_closure a)) (apply_cfg_part a)
+        × ((c : Cfg) → GivesCallable Fut.Future S2.can_call (Answers (F.post (apply_cfg_closure a)) (apply_cfg_part a) c)) };
 
-    ghost may = { λ a c q r. OfGiven Fut.Future (Answers (F.post (arc_value a.srv).1) (arc_value a.srv).0 c)
-        (λ made. S2.may made q r) };
+    ghost may = { λ a c q. OfOk (LentGives F.post Fut.gives a c) (λ made. S2.may made q) };
 
-    ghost may_ready = { λ a c answer. OfGiven Fut.Future (Answers (F.post (arc_value a.srv).1) (arc_value a.srv).0 c)
-        (λ made. S2.may_ready made answer) };
+    ghost may_ready = { λ a c. OfOk (LentGives F.post Fut.gives a c) S2.may_ready };
 
-    ghost may_begin = { λ a c q f. OfGiven Fut.Future (Answers (F.post (arc_value a.srv).1) (arc_value a.srv).0 c)
-        (λ made. S2.may_begin made q f) };
+    ghost may_begin = { λ a c q. OfOk (LentGives F.post Fut.gives a c) (λ made. S2.may_begin made q) };
 
-    ghost may_init = { λ a c e. GivenBy Fut.Future (Answers (F.post (arc_value a.srv).1) (arc_value a.srv).0 c) (Fails e) };
+    ghost may_init = { λ a c e. LentGives F.post Fut.gives a c (Fails e) };
 
-    ghost may_make = { λ a c. OfGiven Fut.Future (Answers (F.post (arc_value a.srv).1) (arc_value a.srv).0 c) (λ _. ⊤) };
+    ghost may_make = { λ a c. (made : S2) × LentGives F.post Fut.gives a c (Gives made) };
 
     ghost begun_gives = { λ a c q f begun.
-        let gives = S2.begun_gives begun.service q f begun.holds in (
-          gives.0,
-          λ r given. record {
-            future = begun.future;
-            answered = begun.answered;
-            service = begun.service;
-            given = begun.given;
-            holds = gives.1 r given;
-          },
-        ) };
+        let gives = S2.begun_gives begun.value q f begun.holds in
+        (gives.0, λ r given. record { value = begun.value; comes = begun.comes; holds = gives.1 r given }) };
 
     fn new_service(&self, cfg: Cfg) -> Fut {
         (self.srv.1)(cfg, &self.srv.0)

@@ -1,16 +1,15 @@
-ghost use Rattle.std.specs.Prelude.{◌≡◌, ◌⊎◌, ⊤, Err as Fails, IfOk};
-ghost use Rattle.std.specs.Arc.{arc_value};
+ghost use Rattle.std.specs.Prelude.{◌≡◌, ◌⊎◌, Ok as Gives, Err as Fails, IfOk};
 ghost use Rattle.futures.specs.declared.task.Poll.TheVariants.{Ready as PollReady};
-ghost use Rattle.service_core.specs.Closures.{GivenBy};
-ghost use Rattle.service_combine.specs.Applying.{Answers};
-ghost use Rattle.service_combine.specs.Configuring.{OfGiven, Through};
-ghost use Rattle.service_combine.specs.Staging.{MakesFrom, OfReady};
+ghost use Rattle.service_core.specs.Meaning.{Follows};
+ghost use Rattle.service_combine.specs.Configuring.{OfOk};
+ghost use Rattle.service_combine.specs.Shown.{apply_cfg_factory_closure, apply_cfg_factory_part};
+ghost use Rattle.service_combine.specs.Staging.{MakesFrom, ReadyGives};
 
 use crate::ApplyConfigServiceFactoryResponse;
 use crate::config_stage::ConfigStage;
 use crate::made_ready::MadeReady;
 use futures::Future;
-use service_core::{IntoServiceFactory, NoMemory, Service, ServiceFactory, Watched};
+use service_core::{NoMemory, Service, ServiceFactory, Watched};
 use std::alloc::{AllocError, Global};
 use std::marker::PhantomData;
 use std::sync::Arc;
@@ -19,20 +18,19 @@ use std::sync::Arc;
 /// `f(cfg, &service)` gives (`actix_service::apply_cfg_factory`).
 ///
 /// An error of the readiness is turned by `From`. `AllocError` comes for want of memory alone.
-pub fn apply_cfg_factory<I, SF, Req, F, Cfg, Fut, S>(
+pub fn apply_cfg_factory<SF, Req, F, Cfg, Fut, S>(
     alloc: Global,
-    factory: I,
+    factory: SF,
     f: F,
 ) -> Result<ApplyConfigServiceFactory<SF, Req, F, Cfg, Fut, S>, AllocError>
 where
-    I: IntoServiceFactory<SF, Req>,
     SF: ServiceFactory<Req, Config = ()> + Drop,
     F: Fn(Cfg, &SF::Service) -> Fut + Drop,
     Fut: Future<Output = Result<S, SF::InitError>>,
     S: Service<Req>,
-    ensures { IfOk result (λ a. I.turns_into factory (arc_value a.srv).0 × ((arc_value a.srv).1 ≡ f)) }
+    ensures { IfOk result (λ a. (apply_cfg_factory_part a ≡ factory) × (apply_cfg_factory_closure a ≡ f)) }
 {
-    let srv = Arc::new(alloc, (factory.into_factory(), f))?;
+    let srv = Arc::new(alloc, (factory, f))?;
     Ok(ApplyConfigServiceFactory {
         srv,
         types: PhantomData,
@@ -50,7 +48,8 @@ pub struct ApplyConfigServiceFactory<SF, Req, F, Cfg, Fut, S> {
 
 impl<SF: Drop, Req, F: Drop, Cfg, Fut, S> Clone
     for ApplyConfigServiceFactory<SF, Req, F, Cfg, Fut, S> {
-    ghost is_clone = { λ a copy. arc_value copy.srv ≡ arc_value a.srv };
+    ghost is_clone = { λ a copy. (apply_cfg_factory_part copy ≡ apply_cfg_factory_part a)
+        × (apply_cfg_factory_closure copy ≡ apply_cfg_factory_closure a) };
 
     fn clone(&self) -> Result<ApplyConfigServiceFactory<SF, Req, F, Cfg, Fut, S>, AllocError> {
         let srv = Arc::try_clone(&self.srv)?;
@@ -84,48 +83,25 @@ where
 
     type Future = ApplyConfigServiceFactoryResponse<SF, Req, F, Cfg, Fut, S>;
 
-    ghost can_make = { λ a. SF.can_make (arc_value a.srv).0 × ((c : Cfg) (s : SF.Service) → SF.Service.can_call s
-        → MakesFrom Fut.Future (F.pre (arc_value a.srv).1) (F.post (arc_value a.srv).1) S.can_call c s) };
+    ghost can_make = { λ a. SF.can_make (apply_cfg_factory_part a) × ((c : Cfg) (s : SF.Service) → SF.Service.can_call s
+        → MakesFrom Fut.Future (F.pre (apply_cfg_factory_closure a)) (F.post (apply_cfg_factory_closure a)) S.can_call c s) };
 
-    ghost may = { λ a c q r. OfReady SF.Service.Service (SF.may (arc_value a.srv).0 tt) (SF.may_ready (arc_value a.srv).0 tt)
-        (SF.may_begin (arc_value a.srv).0 tt) (λ s. OfGiven Fut.Future (Answers (F.post (arc_value a.srv).1) s c)
-        (λ made. S.may made q r)) };
+    ghost may = { λ a c q. OfOk (ReadyGives SF.ServiceFactory SF.Service.Service F.post Fut.gives a c) (λ made. S.may made q) };
 
-    ghost may_ready = { λ a c answer. OfReady SF.Service.Service (SF.may (arc_value a.srv).0 tt) (SF.may_ready (arc_value a.srv).0 tt)
-        (SF.may_begin (arc_value a.srv).0 tt) (λ s. OfGiven Fut.Future (Answers (F.post (arc_value a.srv).1) s c)
-        (λ made. S.may_ready made answer)) };
+    ghost may_ready = { λ a c. OfOk (ReadyGives SF.ServiceFactory SF.Service.Service F.post Fut.gives a c) S.may_ready };
 
-    ghost may_begin = { λ a c q f. OfReady SF.Service.Service (SF.may (arc_value a.srv).0 tt) (SF.may_ready (arc_value a.srv).0 tt)
-        (SF.may_begin (arc_value a.srv).0 tt) (λ s. OfGiven Fut.Future (Answers (F.post (arc_value a.srv).1) s c)
-        (λ made. S.may_begin made q f)) };
+    ghost may_begin = { λ a c q. OfOk (ReadyGives SF.ServiceFactory SF.Service.Service F.post Fut.gives a c) (λ made. S.may_begin made q) };
 
-    ghost may_init = { λ a c e. SF.may_init (arc_value a.srv).0 tt e
-        ⊎ (Through (λ from. SF.may_ready (arc_value a.srv).0 tt (PollReady (Fails from))) (λ from. SF.InitError.From.from_gives from e)
-        ⊎ (OfReady SF.Service.Service (SF.may (arc_value a.srv).0 tt) (SF.may_ready (arc_value a.srv).0 tt)
-        (SF.may_begin (arc_value a.srv).0 tt) (λ s. GivenBy Fut.Future (Answers (F.post (arc_value a.srv).1) s c) (Fails e))
-        ⊎ (e ≡ SF.InitError.refusal))) };
+    ghost may_init = { λ a c e. SF.may_init (apply_cfg_factory_part a) tt e
+        ⊎ (Follows (λ from. SF.may_ready (apply_cfg_factory_part a) tt (PollReady (Fails from))) SF.InitError.From.from_gives e
+        ⊎ (ReadyGives SF.ServiceFactory SF.Service.Service F.post Fut.gives a c (Fails e) ⊎ (e ≡ SF.InitError.refusal))) };
 
-    ghost may_make = { λ a c. SF.may_make (arc_value a.srv).0 tt
-        × OfReady SF.Service.Service (SF.may (arc_value a.srv).0 tt) (SF.may_ready (arc_value a.srv).0 tt)
-        (SF.may_begin (arc_value a.srv).0 tt) (λ s. OfGiven Fut.Future (Answers (F.post (arc_value a.srv).1) s c) (λ _. ⊤)) };
+    ghost may_make = { λ a c. SF.may_make (apply_cfg_factory_part a) tt
+        × ((made : S) × ReadyGives SF.ServiceFactory SF.Service.Service F.post Fut.gives a c (Gives made)) };
 
     ghost begun_gives = { λ a c q f begun.
-        let given = begun.holds in
-        let gives = S.begun_gives given.service q f given.holds in (
-          gives.0,
-          λ r may. record {
-            made = begun.made;
-            lies = begun.lies;
-            is_ready = begun.is_ready;
-            holds = record {
-              future = given.future;
-              answered = given.answered;
-              service = given.service;
-              given = given.given;
-              holds = gives.1 r may;
-            };
-          },
-        ) };
+        let gives = S.begun_gives begun.value q f begun.holds in
+        (gives.0, λ r given. record { value = begun.value; comes = begun.comes; holds = gives.1 r given }) };
 
     fn new_service(&self, cfg: Cfg) -> ApplyConfigServiceFactoryResponse<SF, Req, F, Cfg, Fut, S> {
         match Arc::try_clone(&self.srv) {

@@ -69,7 +69,7 @@ where
 
     ghost gives = { λ m r. elim m.state [
       | First w cfg parts ↦ ThroughService (⟦<MadeReady<SF::Future, SF::Service, Req> as Future>⟧.gives w)
-          Fut.Future (λ s. Answers (F.post (arc_value parts).1) s cfg) r
+          Fut.gives (λ s. Answers (F.post (arc_value parts).1) s cfg) r
       | Second w ↦ Fut.gives w.future r
       | Refused ↦ r ≡ Err SF.InitError.refusal
       | Done ↦ ⊥

@@ -1,9 +1,9 @@
 ghost use Rattle.std.specs.Prelude.{◌≡◌, ◌⊎◌, IfOk};
-ghost use Rattle.std.specs.Arc.{arc_value};
-ghost use Rattle.service_core.specs.Closures.{GivenBy};
-ghost use Rattle.service_core.specs.Making.{OfMade};
+ghost use Rattle.service_core.specs.Made.{MadeBy};
+ghost use Rattle.service_core.specs.Meaning.{Follows};
 ghost use Rattle.service_combine.specs.Applying.{Answers, TakesLent};
 ghost use Rattle.service_combine.specs.Same.{MakesSame};
+ghost use Rattle.service_combine.specs.Shown.{apply_factory_closure, apply_factory_part};
 
 use crate::making::Making;
 use crate::{Apply, ApplyServiceFactoryResponse};
@@ -27,7 +27,7 @@ where
     SF: ServiceFactory<In, Error = Err> + Drop,
     F: Fn(Req, &SF::Service) -> Fut + Drop,
     Fut: Future<Output = Result<Res, Err>>,
-    ensures { IfOk result (λ a. I.turns_into service a.factory × (arc_value a.wrap_fn ≡ f)) }
+    ensures { IfOk result (λ a. I.turns_into service (apply_factory_part a) × (apply_factory_closure a ≡ f)) }
 {
     let factory = service.into_factory();
     let wrap_fn = Arc::new(alloc, f)?;
@@ -47,7 +47,8 @@ pub struct ApplyFactory<SF, F, Req, In, Res, Err> {
 }
 
 impl<SF: Clone, F: Drop, Req, In, Res, Err> Clone for ApplyFactory<SF, F, Req, In, Res, Err> {
-    ghost is_clone = { λ a copy. SF.is_clone a.factory copy.factory × (arc_value copy.wrap_fn ≡ arc_value a.wrap_fn) };
+    ghost is_clone = { λ a copy. SF.is_clone (apply_factory_part a) (apply_factory_part copy)
+        × (apply_factory_closure copy ≡ apply_factory_closure a) };
 
     fn clone(&self) -> Result<ApplyFactory<SF, F, Req, In, Res, Err>, AllocError> {
         let factory = self.factory.clone()?;
@@ -74,7 +75,7 @@ where
     /// makes.
     pub fn clone(&self) -> Result<ApplyFactory<SF, F, Req, In, Res, Err>, AllocError>
         ensures clone { IfOk result (⟦<ApplyFactory<SF, F, Req, In, Res, Err> as Clone>⟧.is_clone self.now) }
-        ensures meaning { IfOk result (λ copy. MakesSame ⟦<SF as ServiceFactory<In>>⟧ self.now.factory copy.factory
+        ensures meaning { IfOk result (λ copy. MakesSame SF.ServiceFactory (apply_factory_part self.now) (apply_factory_part copy)
             → MakesSame ⟦<ApplyFactory<SF, F, Req, In, Res, Err> as ServiceFactory<Req>>⟧ self.now copy) }
     {
         let copy = Clone::clone(self)?;
@@ -104,27 +105,27 @@ where
 
     type Future = ApplyServiceFactoryResponse<SF::Future, F, Req, In, Res, Err>;
 
-    ghost can_make = { λ a. SF.can_make a.factory × ((s : SF.Service) → SF.Service.can_call s
-        → TakesLent Fut.Future (F.pre (arc_value a.wrap_fn)) (F.post (arc_value a.wrap_fn)) s) };
+    ghost can_make = { λ a. SF.can_make (apply_factory_part a) × ((s : SF.Service) → SF.Service.can_call s
+        → TakesLent Fut.Future (F.pre (apply_factory_closure a)) (F.post (apply_factory_closure a)) s) };
 
-    ghost may = { λ a c q r. OfMade SF.Service.Service (SF.may a.factory c) (SF.may_ready a.factory c)
-        (SF.may_begin a.factory c) (λ s. GivenBy Fut.Future (Answers (F.post (arc_value a.wrap_fn)) s q) r) };
+    ghost may = { λ a c q. Follows (MadeBy SF.ServiceFactory SF.Service.Service (apply_factory_part a) c)
+        (λ s. Follows (Answers (F.post (apply_factory_closure a)) s q) Fut.gives) };
 
-    ghost may_ready = { λ a c. SF.may_ready a.factory c };
+    ghost may_ready = { λ a c. SF.may_ready (apply_factory_part a) c };
 
-    ghost may_begin = { λ a c q fut. OfMade SF.Service.Service (SF.may a.factory c) (SF.may_ready a.factory c)
-        (SF.may_begin a.factory c) (λ s. Answers (F.post (arc_value a.wrap_fn)) s q fut) × Fut.can_poll fut };
+    ghost may_begin = { λ a c q fut. Follows (MadeBy SF.ServiceFactory SF.Service.Service (apply_factory_part a) c)
+        (λ s. Answers (F.post (apply_factory_closure a)) s q) fut × Fut.can_poll fut };
 
-    ghost may_init = { λ a c e. SF.may_init a.factory c e ⊎ (e ≡ SF.InitError.refusal) };
+    ghost may_init = { λ a c e. SF.may_init (apply_factory_part a) c e ⊎ (e ≡ SF.InitError.refusal) };
 
-    ghost may_make = { λ a c. SF.may_make a.factory c };
+    ghost may_make = { λ a c. SF.may_make (apply_factory_part a) c };
 
     ghost begun_gives = { λ a c q fut begun. (
       begun.1,
       λ r given. record {
-        made = begun.0.made;
-        lies = begun.0.lies;
-        holds = record { future = fut; answered = begun.0.holds; gives = given };
+        value = begun.0.value;
+        comes = begun.0.comes;
+        holds = record { value = fut; comes = begun.0.holds; holds = given };
       },
     ) };
 

@@ -1,8 +1,8 @@
 ghost use Rattle.std.specs.Prelude.{◌≡◌, IfOk};
-ghost use Rattle.std.specs.Arc.{arc_value};
-ghost use Rattle.service_core.specs.Closures.{GivenBy};
+ghost use Rattle.service_core.specs.Meaning.{Follows};
 ghost use Rattle.service_combine.specs.Applying.{Answers, TakesLent};
-ghost use Rattle.service_combine.specs.Same.{MeansSame};
+ghost use Rattle.service_combine.specs.Same.{MeansSame, TakesSame};
+ghost use Rattle.service_combine.specs.Shown.{apply_closure, apply_part};
 
 use futures::Future;
 use futures::task::{Context, Poll};
@@ -24,7 +24,7 @@ where
     S: Service<In, Error = Err> + Drop,
     F: Fn(Req, &S) -> Fut + Drop,
     Fut: Future<Output = Result<Res, Err>>,
-    ensures { IfOk result (λ a. I.turns_into service a.service × (arc_value a.wrap_fn ≡ wrap_fn)) }
+    ensures { IfOk result (λ a. I.turns_into service (apply_part a) × (apply_closure a ≡ wrap_fn)) }
 {
     let service = service.into_service();
     let wrap_fn = Arc::new(alloc, wrap_fn)?;
@@ -45,7 +45,7 @@ pub struct Apply<S, F, Req, In, Res, Err> {
 }
 
 impl<S: Clone, F: Drop, Req, In, Res, Err> Clone for Apply<S, F, Req, In, Res, Err> {
-    ghost is_clone = { λ a copy. S.is_clone a.service copy.service × (arc_value copy.wrap_fn ≡ arc_value a.wrap_fn) };
+    ghost is_clone = { λ a copy. S.is_clone (apply_part a) (apply_part copy) × (apply_closure copy ≡ apply_closure a) };
 
     fn clone(&self) -> Result<Apply<S, F, Req, In, Res, Err>, AllocError> {
         let service = self.service.clone()?;
@@ -64,11 +64,12 @@ where
     F: Fn(Req, &S) -> Fut + Drop,
     Fut: Future<Output = Result<Res, Err>>,
 {
-    /// A copy that shares the closure. It means what this service means, where a clone of the part is the part itself:
-    /// it is lent to the closure.
+    /// A copy that shares the closure. It means what this service means, where a clone of the part means what the part
+    /// means and the closure answers alike with either lent.
     pub fn clone(&self) -> Result<Apply<S, F, Req, In, Res, Err>, AllocError>
         ensures clone { IfOk result (⟦<Apply<S, F, Req, In, Res, Err> as Clone>⟧.is_clone self.now) }
-        ensures meaning { IfOk result (λ copy. copy.service ≡ self.now.service
+        ensures meaning { IfOk result (λ copy. MeansSame S.Service (apply_part self.now) (apply_part copy)
+            → TakesSame (F.pre (apply_closure self.now)) (F.post (apply_closure self.now)) (apply_part self.now) (apply_part copy)
             → MeansSame ⟦<Apply<S, F, Req, In, Res, Err> as Service<Req>>⟧ self.now copy) }
     {
         let copy = Clone::clone(self)?;
@@ -88,16 +89,16 @@ where
 
     type Future = Fut;
 
-    ghost can_call = { λ a. S.can_call a.service
-        × TakesLent Fut.Future (F.pre (arc_value a.wrap_fn)) (F.post (arc_value a.wrap_fn)) a.service };
+    ghost can_call = { λ a. S.can_call (apply_part a)
+        × TakesLent Fut.Future (F.pre (apply_closure a)) (F.post (apply_closure a)) (apply_part a) };
 
-    ghost may = { λ a q. GivenBy Fut.Future (Answers (F.post (arc_value a.wrap_fn)) a.service q) };
+    ghost may = { λ a q. Follows (Answers (F.post (apply_closure a)) (apply_part a) q) Fut.gives };
 
-    ghost may_ready = { λ a. S.may_ready a.service };
+    ghost may_ready = { λ a. S.may_ready (apply_part a) };
 
-    ghost may_begin = { λ a q fut. Answers (F.post (arc_value a.wrap_fn)) a.service q fut × Fut.can_poll fut };
+    ghost may_begin = { λ a q fut. Answers (F.post (apply_closure a)) (apply_part a) q fut × Fut.can_poll fut };
 
-    ghost begun_gives = { λ a q fut begun. (begun.1, λ r given. record { future = fut; answered = begun.0; gives = given }) };
+    ghost begun_gives = { λ a q fut begun. (begun.1, λ r given. record { value = fut; comes = begun.0; holds = given }) };
 
     fn poll_ready(&self, cx: &mut Context<'_>) -> Poll<Result<(), Err>> {
         self.service.poll_ready(cx)

@@ -1,7 +1,7 @@
-ghost use Rattle.std.specs.Prelude.{◌≡◌, ⊤, Err as Fails, IfOk};
-ghost use Rattle.std.specs.Arc.{arc_value};
-ghost use Rattle.service_core.specs.Closures.{GivenBy};
-ghost use Rattle.service_combine.specs.Configuring.{GivesCallable, OfGiven};
+ghost use Rattle.std.specs.Prelude.{◌≡◌, Ok as Gives, Err as Fails, IfOk};
+ghost use Rattle.service_core.specs.Meaning.{Follows};
+ghost use Rattle.service_combine.specs.Configuring.{GivesCallable, OfOk};
+ghost use Rattle.service_combine.specs.Shown.{config_closure};
 
 use futures::Future;
 use service_core::{Service, ServiceFactory};
@@ -20,7 +20,7 @@ where
     F: Fn(Cfg) -> Fut + Drop,
     Fut: Future<Output = Result<Srv, Err>>,
     Srv: Service<Req>,
-    ensures { IfOk result (λ s. arc_value s.f ≡ f) }
+    ensures { IfOk result (λ s. config_closure s ≡ f) }
 {
     let f = Arc::new(alloc, f)?;
     Ok(FnServiceConfig {
@@ -39,7 +39,7 @@ pub struct FnServiceConfig<F, Fut, Cfg, Srv, Req, Err> {
 }
 
 impl<F: Drop, Fut, Cfg, Srv, Req, Err> Clone for FnServiceConfig<F, Fut, Cfg, Srv, Req, Err> {
-    ghost is_clone = { λ s copy. arc_value copy.f ≡ arc_value s.f };
+    ghost is_clone = { λ s copy. config_closure copy ≡ config_closure s };
 
     fn clone(&self) -> Result<FnServiceConfig<F, Fut, Cfg, Srv, Req, Err>, AllocError> {
         let f = Arc::try_clone(&self.f)?;
@@ -68,30 +68,22 @@ where
 
     type Future = Fut;
 
-    ghost can_make = { λ s. F.IsAlwaysCallable (arc_value s.f)
-        × ((c : Cfg) → GivesCallable Fut.Future Srv.can_call (F.post (arc_value s.f) c)) };
+    ghost can_make = { λ s. F.IsAlwaysCallable (config_closure s)
+        × ((c : Cfg) → GivesCallable Fut.Future Srv.can_call (F.post (config_closure s) c)) };
 
-    ghost may = { λ s c q r. OfGiven Fut.Future (F.post (arc_value s.f) c) (λ made. Srv.may made q r) };
+    ghost may = { λ s c q. OfOk (Follows (F.post (config_closure s) c) Fut.gives) (λ made. Srv.may made q) };
 
-    ghost may_ready = { λ s c a. OfGiven Fut.Future (F.post (arc_value s.f) c) (λ made. Srv.may_ready made a) };
+    ghost may_ready = { λ s c. OfOk (Follows (F.post (config_closure s) c) Fut.gives) Srv.may_ready };
 
-    ghost may_begin = { λ s c q f. OfGiven Fut.Future (F.post (arc_value s.f) c) (λ made. Srv.may_begin made q f) };
+    ghost may_begin = { λ s c q. OfOk (Follows (F.post (config_closure s) c) Fut.gives) (λ made. Srv.may_begin made q) };
 
-    ghost may_init = { λ s c e. GivenBy Fut.Future (F.post (arc_value s.f) c) (Fails e) };
+    ghost may_init = { λ s c e. Follows (F.post (config_closure s) c) Fut.gives (Fails e) };
 
-    ghost may_make = { λ s c. OfGiven Fut.Future (F.post (arc_value s.f) c) (λ _. ⊤) };
+    ghost may_make = { λ s c. (made : Srv) × Follows (F.post (config_closure s) c) Fut.gives (Gives made) };
 
     ghost begun_gives = { λ s c q f begun.
-        let gives = Srv.begun_gives begun.service q f begun.holds in (
-          gives.0,
-          λ r given. record {
-            future = begun.future;
-            answered = begun.answered;
-            service = begun.service;
-            given = begun.given;
-            holds = gives.1 r given;
-          },
-        ) };
+        let gives = Srv.begun_gives begun.value q f begun.holds in
+        (gives.0, λ r given. record { value = begun.value; comes = begun.comes; holds = gives.1 r given }) };
 
     fn new_service(&self, cfg: Cfg) -> Fut {
         (self.f)(cfg)

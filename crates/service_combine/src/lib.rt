@@ -12,6 +12,7 @@ mod apply_factory;
 mod apply_service;
 mod apply_service_factory_response;
 mod both;
+mod both_ready;
 mod config_stage;
 mod fn_service_config;
 mod fn_service_no_config;

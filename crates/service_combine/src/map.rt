@@ -1,8 +1,8 @@
 ghost use Rattle.std.specs.Prelude.{◌≡◌, IfOk};
-ghost use Rattle.std.specs.Arc.{arc_value};
 ghost use Rattle.service_core.specs.Meaning.{GivesOnly};
-ghost use Rattle.service_combine.specs.Meaning.{Mapped, OrRefused};
+ghost use Rattle.service_combine.specs.Equations.{MapMay};
 ghost use Rattle.service_combine.specs.Same.{MeansSame};
+ghost use Rattle.service_combine.specs.Shown.{map_closure, map_part};
 
 use crate::MapFuture;
 use crate::one_stage::OneStage;
@@ -27,7 +27,7 @@ where
     F: Fn(A::Response) -> Res + Drop,
 {
     pub(crate) fn new(alloc: Global, service: A, f: F) -> Result<Map<A, F, Req, Res>, AllocError>
-        ensures { IfOk result (λ m. (m.service ≡ service) × (arc_value m.f ≡ f)) }
+        ensures { IfOk result (λ m. (map_part m ≡ service) × (map_closure m ≡ f)) }
     {
         let f = Arc::new(alloc, f)?;
         Ok(Map {
@@ -39,7 +39,7 @@ where
 }
 
 impl<A: Clone, F: Drop, Req, Res> Clone for Map<A, F, Req, Res> {
-    ghost is_clone = { λ m copy. A.is_clone m.service copy.service × (arc_value copy.f ≡ arc_value m.f) };
+    ghost is_clone = { λ m copy. A.is_clone (map_part m) (map_part copy) × (map_closure copy ≡ map_closure m) };
 
     fn clone(&self) -> Result<Map<A, F, Req, Res>, AllocError> {
         let service = self.service.clone()?;
@@ -62,7 +62,7 @@ where
     /// means.
     pub fn clone(&self) -> Result<Map<A, F, Req, Res>, AllocError>
         ensures clone { IfOk result (⟦<Map<A, F, Req, Res> as Clone>⟧.is_clone self.now) }
-        ensures meaning { IfOk result (λ copy. MeansSame A.Service self.now.service copy.service
+        ensures meaning { IfOk result (λ copy. MeansSame A.Service (map_part self.now) (map_part copy)
             → MeansSame ⟦<Map<A, F, Req, Res> as Service<Req>>⟧ self.now copy) }
     {
         let copy = Clone::clone(self)?;
@@ -82,14 +82,14 @@ where
 
     type Future = MapFuture<A::Future, F>;
 
-    ghost can_call = { λ m. A.can_call m.service × F.IsAlwaysCallable (arc_value m.f) };
+    ghost can_call = { λ m. A.can_call (map_part m) × F.IsAlwaysCallable (map_closure m) };
 
-    ghost may = { λ m q. OrRefused (Mapped (A.may m.service q) (F.post (arc_value m.f))) A.Error.refusal };
+    ghost may = { MapMay A.Service F.post A.Error.refusal };
 
     ghost may_begin = { λ m q f. GivesOnly ⟦<MapFuture<A::Future, F> as Future>⟧ f
-        (OrRefused (Mapped (A.may m.service q) (F.post (arc_value m.f))) A.Error.refusal) };
+        (MapMay A.Service F.post A.Error.refusal m q) };
 
-    ghost may_ready = { λ m. A.may_ready m.service };
+    ghost may_ready = { λ m. A.may_ready (map_part m) };
 
     ghost begun_gives = { λ m q f begun. begun };
 

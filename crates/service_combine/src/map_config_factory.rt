@@ -1,7 +1,7 @@
 ghost use Rattle.std.specs.Prelude.{◌≡◌, IfOk};
-ghost use Rattle.std.specs.Arc.{arc_value};
-ghost use Rattle.service_combine.specs.Configuring.{Through};
+ghost use Rattle.service_core.specs.Meaning.{Follows, Through};
 ghost use Rattle.service_combine.specs.Same.{MakesSame};
+ghost use Rattle.service_combine.specs.Shown.{map_config_closure, map_config_part};
 
 use service_core::{IntoServiceFactory, ServiceFactory};
 use std::alloc::{AllocError, Global};
@@ -20,7 +20,7 @@ where
     I: IntoServiceFactory<SF, Req>,
     SF: ServiceFactory<Req> + Drop,
     F: Fn(Cfg) -> SF::Config + Drop,
-    ensures { IfOk result (λ m. I.turns_into factory m.factory × (arc_value m.cfg_mapper ≡ f)) }
+    ensures { IfOk result (λ m. I.turns_into factory (map_config_part m) × (map_config_closure m ≡ f)) }
 {
     let factory = factory.into_factory();
     let cfg_mapper = Arc::new(alloc, f)?;
@@ -40,7 +40,8 @@ pub struct MapConfig<SF, Req, F, Cfg> {
 }
 
 impl<SF: Clone, Req, F: Drop, Cfg> Clone for MapConfig<SF, Req, F, Cfg> {
-    ghost is_clone = { λ m copy. SF.is_clone m.factory copy.factory × (arc_value copy.cfg_mapper ≡ arc_value m.cfg_mapper) };
+    ghost is_clone = { λ m copy. SF.is_clone (map_config_part m) (map_config_part copy)
+        × (map_config_closure copy ≡ map_config_closure m) };
 
     fn clone(&self) -> Result<MapConfig<SF, Req, F, Cfg>, AllocError> {
         let factory = self.factory.clone()?;
@@ -62,7 +63,7 @@ where
     /// makes.
     pub fn clone(&self) -> Result<MapConfig<SF, Req, F, Cfg>, AllocError>
         ensures clone { IfOk result (⟦<MapConfig<SF, Req, F, Cfg> as Clone>⟧.is_clone self.now) }
-        ensures meaning { IfOk result (λ copy. MakesSame ⟦<SF as ServiceFactory<Req>>⟧ self.now.factory copy.factory
+        ensures meaning { IfOk result (λ copy. MakesSame SF.ServiceFactory (map_config_part self.now) (map_config_part copy)
             → MakesSame ⟦<MapConfig<SF, Req, F, Cfg> as ServiceFactory<Req>>⟧ self.now copy) }
     {
         let copy = Clone::clone(self)?;
@@ -87,21 +88,21 @@ where
 
     type Future = SF::Future;
 
-    ghost can_make = { λ m. SF.can_make m.factory × F.IsAlwaysCallable (arc_value m.cfg_mapper) };
+    ghost can_make = { λ m. SF.can_make (map_config_part m) × F.IsAlwaysCallable (map_config_closure m) };
 
-    ghost may = { λ m c q r. Through (F.post (arc_value m.cfg_mapper) c) (λ to. SF.may m.factory to q r) };
+    ghost may = { λ m c q. Follows (F.post (map_config_closure m) c) (λ to. SF.may (map_config_part m) to q) };
 
-    ghost may_ready = { λ m c a. Through (F.post (arc_value m.cfg_mapper) c) (λ to. SF.may_ready m.factory to a) };
+    ghost may_ready = { λ m c. Follows (F.post (map_config_closure m) c) (SF.may_ready (map_config_part m)) };
 
-    ghost may_begin = { λ m c q f. Through (F.post (arc_value m.cfg_mapper) c) (λ to. SF.may_begin m.factory to q f) };
+    ghost may_begin = { λ m c q. Follows (F.post (map_config_closure m) c) (λ to. SF.may_begin (map_config_part m) to q) };
 
-    ghost may_init = { λ m c e. Through (F.post (arc_value m.cfg_mapper) c) (λ to. SF.may_init m.factory to e) };
+    ghost may_init = { λ m c. Follows (F.post (map_config_closure m) c) (SF.may_init (map_config_part m)) };
 
-    ghost may_make = { λ m c. Through (F.post (arc_value m.cfg_mapper) c) (SF.may_make m.factory) };
+    ghost may_make = { λ m c. Through (F.post (map_config_closure m) c) (SF.may_make (map_config_part m)) };
 
     ghost begun_gives = { λ m c q f begun.
-        let gives = SF.begun_gives m.factory begun.value q f begun.holds in
-        (gives.0, λ r given. record { value = begun.value; may_come = begun.may_come; holds = gives.1 r given }) };
+        let gives = SF.begun_gives (map_config_part m) begun.value q f begun.holds in
+        (gives.0, λ r given. record { value = begun.value; comes = begun.comes; holds = gives.1 r given }) };
 
     fn new_service(&self, cfg: Cfg) -> SF::Future {
         self.factory.new_service((self.cfg_mapper)(cfg))

@@ -1,9 +1,9 @@
 ghost use Rattle.std.specs.Prelude.{◌≡◌, IfOk};
-ghost use Rattle.std.specs.Arc.{arc_value};
 ghost use Rattle.service_core.specs.Meaning.{GivesOnly};
-ghost use Rattle.service_combine.specs.Meaning.{MappedErr, OrRefused};
+ghost use Rattle.service_combine.specs.Equations.{MapErrMay};
 ghost use Rattle.service_combine.specs.Readying.{ReadyErrBy};
 ghost use Rattle.service_combine.specs.Same.{MeansSame};
+ghost use Rattle.service_combine.specs.Shown.{map_err_closure, map_err_part};
 
 use crate::MapErrFuture;
 use crate::one_stage::OneStage;
@@ -29,7 +29,7 @@ where
     F: Fn(A::Error) -> E + Drop,
 {
     pub(crate) fn new(alloc: Global, service: A, f: F) -> Result<MapErr<A, Req, F, E>, AllocError>
-        ensures { IfOk result (λ m. (m.service ≡ service) × (arc_value m.f ≡ f)) }
+        ensures { IfOk result (λ m. (map_err_part m ≡ service) × (map_err_closure m ≡ f)) }
     {
         let f = Arc::new(alloc, f)?;
         Ok(MapErr {
@@ -41,7 +41,7 @@ where
 }
 
 impl<A: Clone, Req, F: Drop, E> Clone for MapErr<A, Req, F, E> {
-    ghost is_clone = { λ m copy. A.is_clone m.service copy.service × (arc_value copy.f ≡ arc_value m.f) };
+    ghost is_clone = { λ m copy. A.is_clone (map_err_part m) (map_err_part copy) × (map_err_closure copy ≡ map_err_closure m) };
 
     fn clone(&self) -> Result<MapErr<A, Req, F, E>, AllocError> {
         let service = self.service.clone()?;
@@ -65,7 +65,7 @@ where
     /// means.
     pub fn clone(&self) -> Result<MapErr<A, Req, F, E>, AllocError>
         ensures clone { IfOk result (⟦<MapErr<A, Req, F, E> as Clone>⟧.is_clone self.now) }
-        ensures meaning { IfOk result (λ copy. MeansSame A.Service self.now.service copy.service
+        ensures meaning { IfOk result (λ copy. MeansSame A.Service (map_err_part self.now) (map_err_part copy)
             → MeansSame ⟦<MapErr<A, Req, F, E> as Service<Req>>⟧ self.now copy) }
     {
         let copy = Clone::clone(self)?;
@@ -86,14 +86,14 @@ where
 
     type Future = MapErrFuture<A::Future, F>;
 
-    ghost can_call = { λ m. A.can_call m.service × F.IsAlwaysCallable (arc_value m.f) };
+    ghost can_call = { λ m. A.can_call (map_err_part m) × F.IsAlwaysCallable (map_err_closure m) };
 
-    ghost may = { λ m q. OrRefused (MappedErr (A.may m.service q) (F.post (arc_value m.f))) E.refusal };
+    ghost may = { MapErrMay A.Service F.post E.refusal };
 
     ghost may_begin = { λ m q f. GivesOnly ⟦<MapErrFuture<A::Future, F> as Future>⟧ f
-        (OrRefused (MappedErr (A.may m.service q) (F.post (arc_value m.f))) E.refusal) };
+        (MapErrMay A.Service F.post E.refusal m q) };
 
-    ghost may_ready = { λ m. ReadyErrBy (F.post (arc_value m.f)) (A.may_ready m.service) };
+    ghost may_ready = { λ m. ReadyErrBy (F.post (map_err_closure m)) (A.may_ready (map_err_part m)) };
 
     ghost begun_gives = { λ m q f begun. begun };
 

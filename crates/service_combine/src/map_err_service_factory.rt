@@ -1,9 +1,9 @@
 ghost use Rattle.std.specs.Prelude.{◌≡◌, ◌⊎◌, IfOk};
-ghost use Rattle.std.specs.Arc.{arc_value};
 ghost use Rattle.service_core.specs.Meaning.{GivesOnly};
-ghost use Rattle.service_combine.specs.Meaning.{MappedErr, OrRefused};
+ghost use Rattle.service_combine.specs.Equations.{MapErrMakes};
 ghost use Rattle.service_combine.specs.Readying.{ReadyErrBy};
 ghost use Rattle.service_combine.specs.Same.{MakesSame};
+ghost use Rattle.service_combine.specs.Shown.{map_err_factory, map_err_factory_closure};
 
 use crate::making::Making;
 use crate::{MapErr, MapErrFuture, MapErrServiceFuture};
@@ -32,7 +32,7 @@ where
         factory: A,
         f: F,
     ) -> Result<MapErrServiceFactory<A, Req, F, E>, AllocError>
-        ensures { IfOk result (λ m. (m.factory ≡ factory) × (arc_value m.f ≡ f)) }
+        ensures { IfOk result (λ m. (map_err_factory m ≡ factory) × (map_err_factory_closure m ≡ f)) }
     {
         let f = Arc::new(alloc, f)?;
         Ok(MapErrServiceFactory {
@@ -44,7 +44,8 @@ where
 }
 
 impl<A: Clone, Req, F: Drop, E> Clone for MapErrServiceFactory<A, Req, F, E> {
-    ghost is_clone = { λ m copy. A.is_clone m.factory copy.factory × (arc_value copy.f ≡ arc_value m.f) };
+    ghost is_clone = { λ m copy. A.is_clone (map_err_factory m) (map_err_factory copy)
+        × (map_err_factory_closure copy ≡ map_err_factory_closure m) };
 
     fn clone(&self) -> Result<MapErrServiceFactory<A, Req, F, E>, AllocError> {
         let factory = self.factory.clone()?;
@@ -68,7 +69,7 @@ where
     /// makes.
     pub fn clone(&self) -> Result<MapErrServiceFactory<A, Req, F, E>, AllocError>
         ensures clone { IfOk result (⟦<MapErrServiceFactory<A, Req, F, E> as Clone>⟧.is_clone self.now) }
-        ensures meaning { IfOk result (λ copy. MakesSame ⟦<A as ServiceFactory<Req>>⟧ self.now.factory copy.factory
+        ensures meaning { IfOk result (λ copy. MakesSame A.ServiceFactory (map_err_factory self.now) (map_err_factory copy)
             → MakesSame ⟦<MapErrServiceFactory<A, Req, F, E> as ServiceFactory<Req>>⟧ self.now copy) }
     {
         let copy = Clone::clone(self)?;
@@ -95,18 +96,18 @@ where
 
     type Future = MapErrServiceFuture<A::Future, F, Req, E>;
 
-    ghost can_make = { λ m. A.can_make m.factory × F.IsAlwaysCallable (arc_value m.f) };
+    ghost can_make = { λ m. A.can_make (map_err_factory m) × F.IsAlwaysCallable (map_err_factory_closure m) };
 
-    ghost may = { λ m c q. OrRefused (MappedErr (A.may m.factory c q) (F.post (arc_value m.f))) E.refusal };
+    ghost may = { MapErrMakes A.ServiceFactory F.post E.refusal };
 
-    ghost may_ready = { λ m c. ReadyErrBy (F.post (arc_value m.f)) (A.may_ready m.factory c) };
+    ghost may_ready = { λ m c. ReadyErrBy (F.post (map_err_factory_closure m)) (A.may_ready (map_err_factory m) c) };
 
     ghost may_begin = { λ m c q f. GivesOnly ⟦<MapErrFuture<<<A as ServiceFactory<Req>>::Service as Service<Req>>::Future, F> as Future>⟧ f
-        (OrRefused (MappedErr (A.may m.factory c q) (F.post (arc_value m.f))) E.refusal) };
+        (MapErrMakes A.ServiceFactory F.post E.refusal m c q) };
 
-    ghost may_init = { λ m c e. A.may_init m.factory c e ⊎ (e ≡ A.InitError.refusal) };
+    ghost may_init = { λ m c e. A.may_init (map_err_factory m) c e ⊎ (e ≡ A.InitError.refusal) };
 
-    ghost may_make = { λ m c. A.may_make m.factory c };
+    ghost may_make = { λ m c. A.may_make (map_err_factory m) c };
 
     ghost begun_gives = { λ m c q f begun. begun };
 

@@ -1,7 +1,7 @@
 ghost use Rattle.std.specs.Prelude.{◌≡◌, ◌⊎◌, IfOk};
-ghost use Rattle.std.specs.Arc.{arc_value};
-ghost use Rattle.service_combine.specs.Configuring.{Through};
+ghost use Rattle.service_core.specs.Meaning.{Follows};
 ghost use Rattle.service_combine.specs.Same.{MakesSame};
+ghost use Rattle.service_combine.specs.Shown.{map_init_err_closure, map_init_err_factory};
 
 use crate::one_stage::OneStage;
 use crate::{MapErrFuture, MapInitErrFuture};
@@ -29,7 +29,7 @@ where
         factory: A,
         f: F,
     ) -> Result<MapInitErr<A, F, Req, E>, AllocError>
-        ensures { IfOk result (λ m. (m.factory ≡ factory) × (arc_value m.f ≡ f)) }
+        ensures { IfOk result (λ m. (map_init_err_factory m ≡ factory) × (map_init_err_closure m ≡ f)) }
     {
         let f = Arc::new(alloc, f)?;
         Ok(MapInitErr {
@@ -41,7 +41,8 @@ where
 }
 
 impl<A: Clone, F: Drop, Req, E> Clone for MapInitErr<A, F, Req, E> {
-    ghost is_clone = { λ m copy. A.is_clone m.factory copy.factory × (arc_value copy.f ≡ arc_value m.f) };
+    ghost is_clone = { λ m copy. A.is_clone (map_init_err_factory m) (map_init_err_factory copy)
+        × (map_init_err_closure copy ≡ map_init_err_closure m) };
 
     fn clone(&self) -> Result<MapInitErr<A, F, Req, E>, AllocError> {
         let factory = self.factory.clone()?;
@@ -64,7 +65,7 @@ where
     /// makes.
     pub fn clone(&self) -> Result<MapInitErr<A, F, Req, E>, AllocError>
         ensures clone { IfOk result (⟦<MapInitErr<A, F, Req, E> as Clone>⟧.is_clone self.now) }
-        ensures meaning { IfOk result (λ copy. MakesSame ⟦<A as ServiceFactory<Req>>⟧ self.now.factory copy.factory
+        ensures meaning { IfOk result (λ copy. MakesSame A.ServiceFactory (map_init_err_factory self.now) (map_init_err_factory copy)
             → MakesSame ⟦<MapInitErr<A, F, Req, E> as ServiceFactory<Req>>⟧ self.now copy) }
     {
         let copy = Clone::clone(self)?;
@@ -90,19 +91,19 @@ where
 
     type Future = MapInitErrFuture<A::Future, F>;
 
-    ghost can_make = { λ m. A.can_make m.factory × F.IsAlwaysCallable (arc_value m.f) };
+    ghost can_make = { λ m. A.can_make (map_init_err_factory m) × F.IsAlwaysCallable (map_init_err_closure m) };
 
-    ghost may = { λ m. A.may m.factory };
+    ghost may = { λ m. A.may (map_init_err_factory m) };
 
-    ghost may_ready = { λ m. A.may_ready m.factory };
+    ghost may_ready = { λ m. A.may_ready (map_init_err_factory m) };
 
-    ghost may_begin = { λ m. A.may_begin m.factory };
+    ghost may_begin = { λ m. A.may_begin (map_init_err_factory m) };
 
-    ghost may_init = { λ m c e. Through (A.may_init m.factory c) (λ from. F.post (arc_value m.f) from e) ⊎ (e ≡ E.refusal) };
+    ghost may_init = { λ m c e. Follows (A.may_init (map_init_err_factory m) c) (F.post (map_init_err_closure m)) e ⊎ (e ≡ E.refusal) };
 
-    ghost may_make = { λ m. A.may_make m.factory };
+    ghost may_make = { λ m. A.may_make (map_init_err_factory m) };
 
-    ghost begun_gives = { λ m. A.begun_gives m.factory };
+    ghost begun_gives = { λ m. A.begun_gives (map_init_err_factory m) };
 
     fn new_service(&self, cfg: A::Config) -> MapInitErrFuture<A::Future, F> {
         match Arc::try_clone(&self.f) {

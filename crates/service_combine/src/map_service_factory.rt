@@ -1,8 +1,8 @@
 ghost use Rattle.std.specs.Prelude.{◌≡◌, ◌⊎◌, IfOk};
-ghost use Rattle.std.specs.Arc.{arc_value};
 ghost use Rattle.service_core.specs.Meaning.{GivesOnly};
-ghost use Rattle.service_combine.specs.Meaning.{Mapped, OrRefused};
+ghost use Rattle.service_combine.specs.Equations.{MapMakes};
 ghost use Rattle.service_combine.specs.Same.{MakesSame};
+ghost use Rattle.service_combine.specs.Shown.{map_factory, map_factory_closure};
 
 use crate::making::Making;
 use crate::{Map, MapFuture, MapServiceFuture};
@@ -31,7 +31,7 @@ where
         factory: A,
         f: F,
     ) -> Result<MapServiceFactory<A, F, Req, Res>, AllocError>
-        ensures { IfOk result (λ m. (m.factory ≡ factory) × (arc_value m.f ≡ f)) }
+        ensures { IfOk result (λ m. (map_factory m ≡ factory) × (map_factory_closure m ≡ f)) }
     {
         let f = Arc::new(alloc, f)?;
         Ok(MapServiceFactory {
@@ -43,7 +43,7 @@ where
 }
 
 impl<A: Clone, F: Drop, Req, Res> Clone for MapServiceFactory<A, F, Req, Res> {
-    ghost is_clone = { λ m copy. A.is_clone m.factory copy.factory × (arc_value copy.f ≡ arc_value m.f) };
+    ghost is_clone = { λ m copy. A.is_clone (map_factory m) (map_factory copy) × (map_factory_closure copy ≡ map_factory_closure m) };
 
     fn clone(&self) -> Result<MapServiceFactory<A, F, Req, Res>, AllocError> {
         let factory = self.factory.clone()?;
@@ -67,7 +67,7 @@ where
     /// makes.
     pub fn clone(&self) -> Result<MapServiceFactory<A, F, Req, Res>, AllocError>
         ensures clone { IfOk result (⟦<MapServiceFactory<A, F, Req, Res> as Clone>⟧.is_clone self.now) }
-        ensures meaning { IfOk result (λ copy. MakesSame ⟦<A as ServiceFactory<Req>>⟧ self.now.factory copy.factory
+        ensures meaning { IfOk result (λ copy. MakesSame A.ServiceFactory (map_factory self.now) (map_factory copy)
             → MakesSame ⟦<MapServiceFactory<A, F, Req, Res> as ServiceFactory<Req>>⟧ self.now copy) }
     {
         let copy = Clone::clone(self)?;
@@ -94,18 +94,18 @@ where
 
     type Future = MapServiceFuture<A::Future, F, Req, Res>;
 
-    ghost can_make = { λ m. A.can_make m.factory × F.IsAlwaysCallable (arc_value m.f) };
+    ghost can_make = { λ m. A.can_make (map_factory m) × F.IsAlwaysCallable (map_factory_closure m) };
 
-    ghost may = { λ m c q. OrRefused (Mapped (A.may m.factory c q) (F.post (arc_value m.f))) A.Error.refusal };
+    ghost may = { MapMakes A.ServiceFactory F.post A.Error.refusal };
 
-    ghost may_ready = { λ m c. A.may_ready m.factory c };
+    ghost may_ready = { λ m c. A.may_ready (map_factory m) c };
 
     ghost may_begin = { λ m c q f. GivesOnly ⟦<MapFuture<<<A as ServiceFactory<Req>>::Service as Service<Req>>::Future, F> as Future>⟧ f
-        (OrRefused (Mapped (A.may m.factory c q) (F.post (arc_value m.f))) A.Error.refusal) };
+        (MapMakes A.ServiceFactory F.post A.Error.refusal m c q) };
 
-    ghost may_init = { λ m c e. A.may_init m.factory c e ⊎ (e ≡ A.InitError.refusal) };
+    ghost may_init = { λ m c e. A.may_init (map_factory m) c e ⊎ (e ≡ A.InitError.refusal) };
 
-    ghost may_make = { λ m c. A.may_make m.factory c };
+    ghost may_make = { λ m c. A.may_make (map_factory m) c };
 
     ghost begun_gives = { λ m c q f begun. begun };
 

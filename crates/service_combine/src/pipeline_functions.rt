@@ -1,3 +1,5 @@
+ghost use Rattle.service_combine.specs.Shown.{pipeline_factory_part, pipeline_part};
+
 use crate::{Pipeline, PipelineFactory};
 use service_core::{IntoService, IntoServiceFactory, Service, ServiceFactory};
 use std::marker::PhantomData;
@@ -7,7 +9,7 @@ pub fn pipeline<I, S, Req>(service: I) -> Pipeline<S, Req>
 where
     I: IntoService<S, Req>,
     S: Service<Req>,
-    ensures { I.turns_into service result.service }
+    ensures { I.turns_into service (pipeline_part result) }
 {
     Pipeline {
         service: service.into_service(),
@@ -20,7 +22,7 @@ pub fn pipeline_factory<I, SF, Req>(factory: I) -> PipelineFactory<SF, Req>
 where
     I: IntoServiceFactory<SF, Req>,
     SF: ServiceFactory<Req>,
-    ensures { I.turns_into factory result.factory }
+    ensures { I.turns_into factory (pipeline_factory_part result) }
 {
     PipelineFactory {
         factory: factory.into_factory(),

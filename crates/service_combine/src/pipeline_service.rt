@@ -1,6 +1,7 @@
 ghost use Rattle.std.specs.Prelude.{◌≡◌, IfOk};
-ghost use Rattle.std.specs.Arc.{arc_value};
 ghost use Rattle.service_combine.specs.Same.{MeansSame};
+ghost use Rattle.service_combine.specs.Shown.{and_then_first, and_then_second, map_closure, map_err_closure, map_err_part, map_part};
+ghost use Rattle.service_combine.specs.Shown.{pipeline_part, then_first, then_second};
 
 use crate::{AndThenService, Map, MapErr, ThenService};
 use futures::task::{Context, Poll};
@@ -28,8 +29,8 @@ where
     where
         I: IntoService<S1, S::Response>,
         S1: Service<S::Response, Error = S::Error> + Drop,
-        ensures { IfOk result (λ p. ((arc_value p.service.parts).0 ≡ self.service)
-            × I.turns_into service (arc_value p.service.parts).1) }
+        ensures { IfOk result (λ p. (and_then_first (pipeline_part p) ≡ pipeline_part self)
+            × I.turns_into service (and_then_second (pipeline_part p))) }
     {
         let Pipeline {
             service: first,
@@ -51,8 +52,8 @@ where
     where
         F: IntoService<S1, Result<S::Response, S::Error>>,
         S1: Service<Result<S::Response, S::Error>, Error = S::Error> + Drop,
-        ensures { IfOk result (λ p. ((arc_value p.service.parts).0 ≡ self.service)
-            × F.turns_into service (arc_value p.service.parts).1) }
+        ensures { IfOk result (λ p. (then_first (pipeline_part p) ≡ pipeline_part self)
+            × F.turns_into service (then_second (pipeline_part p))) }
     {
         let Pipeline {
             service: first,
@@ -73,7 +74,7 @@ where
     ) -> Result<Pipeline<Map<S, F, Req, R>, Req>, AllocError>
     where
         F: Fn(S::Response) -> R + Drop,
-        ensures { IfOk result (λ p. (p.service.service ≡ self.service) × (arc_value p.service.f ≡ f)) }
+        ensures { IfOk result (λ p. (map_part (pipeline_part p) ≡ pipeline_part self) × (map_closure (pipeline_part p) ≡ f)) }
     {
         let Pipeline {
             service: first,
@@ -94,7 +95,7 @@ where
     ) -> Result<Pipeline<MapErr<S, Req, F, E>, Req>, AllocError>
     where
         F: Fn(S::Error) -> E + Drop,
-        ensures { IfOk result (λ p. (p.service.service ≡ self.service) × (arc_value p.service.f ≡ f)) }
+        ensures { IfOk result (λ p. (map_err_part (pipeline_part p) ≡ pipeline_part self) × (map_err_closure (pipeline_part p) ≡ f)) }
     {
         let Pipeline {
             service: first,
@@ -109,7 +110,7 @@ where
 }
 
 impl<S: Clone, Req> Clone for Pipeline<S, Req> {
-    ghost is_clone = { λ p copy. S.is_clone p.service copy.service };
+    ghost is_clone = { λ p copy. S.is_clone (pipeline_part p) (pipeline_part copy) };
 
     fn clone(&self) -> Result<Pipeline<S, Req>, AllocError> {
         let service = self.service.clone()?;
@@ -127,7 +128,7 @@ where
     /// A copy. It means what this service means, where a clone of the part means what the part means.
     pub fn clone(&self) -> Result<Pipeline<S, Req>, AllocError>
         ensures clone { IfOk result (⟦<Pipeline<S, Req> as Clone>⟧.is_clone self.now) }
-        ensures meaning { IfOk result (λ copy. MeansSame S.Service self.now.service copy.service
+        ensures meaning { IfOk result (λ copy. MeansSame S.Service (pipeline_part self.now) (pipeline_part copy)
             → MeansSame ⟦<Pipeline<S, Req> as Service<Req>>⟧ self.now copy) }
     {
         let copy = Clone::clone(self)?;
@@ -142,15 +143,15 @@ impl<S: Service<Req>, Req> Service<Req> for Pipeline<S, Req> {
 
     type Future = S::Future;
 
-    ghost can_call = { λ p. S.can_call p.service };
+    ghost can_call = { λ p. S.can_call (pipeline_part p) };
 
-    ghost may = { λ p. S.may p.service };
+    ghost may = { λ p. S.may (pipeline_part p) };
 
-    ghost may_ready = { λ p. S.may_ready p.service };
+    ghost may_ready = { λ p. S.may_ready (pipeline_part p) };
 
-    ghost may_begin = { λ p. S.may_begin p.service };
+    ghost may_begin = { λ p. S.may_begin (pipeline_part p) };
 
-    ghost begun_gives = { λ p. S.begun_gives p.service };
+    ghost begun_gives = { λ p. S.begun_gives (pipeline_part p) };
 
     fn poll_ready(&self, cx: &mut Context<'_>) -> Poll<Result<(), S::Error>> {
         self.service.poll_ready(cx)

@@ -1,6 +1,8 @@
 ghost use Rattle.std.specs.Prelude.{◌≡◌, IfOk};
-ghost use Rattle.std.specs.Arc.{arc_value};
 ghost use Rattle.service_combine.specs.Same.{MakesSame};
+ghost use Rattle.service_combine.specs.Shown.{and_then_first_factory, and_then_second_factory, map_err_factory, map_err_factory_closure};
+ghost use Rattle.service_combine.specs.Shown.{map_factory, map_factory_closure, map_init_err_closure, map_init_err_factory};
+ghost use Rattle.service_combine.specs.Shown.{pipeline_factory_part, then_first_factory, then_second_factory};
 
 use crate::{
     AndThenServiceFactory, MapErrServiceFactory, MapInitErr, MapServiceFactory, ThenServiceFactory,
@@ -35,8 +37,8 @@ where
             InitError = SF::InitError,
         >
             + Drop,
-        ensures { IfOk result (λ p. ((arc_value p.factory.parts).0 ≡ self.factory)
-            × I.turns_into factory (arc_value p.factory.parts).1) }
+        ensures { IfOk result (λ p. (and_then_first_factory (pipeline_factory_part p) ≡ pipeline_factory_part self)
+            × I.turns_into factory (and_then_second_factory (pipeline_factory_part p))) }
     {
         let PipelineFactory {
             factory: first,
@@ -64,8 +66,8 @@ where
             InitError = SF::InitError,
         >
             + Drop,
-        ensures { IfOk result (λ p. ((arc_value p.factory.parts).0 ≡ self.factory)
-            × I.turns_into factory (arc_value p.factory.parts).1) }
+        ensures { IfOk result (λ p. (then_first_factory (pipeline_factory_part p) ≡ pipeline_factory_part self)
+            × I.turns_into factory (then_second_factory (pipeline_factory_part p))) }
     {
         let PipelineFactory {
             factory: first,
@@ -86,7 +88,8 @@ where
     ) -> Result<PipelineFactory<MapServiceFactory<SF, F, Req, R>, Req>, AllocError>
     where
         F: Fn(SF::Response) -> R + Drop,
-        ensures { IfOk result (λ p. (p.factory.factory ≡ self.factory) × (arc_value p.factory.f ≡ f)) }
+        ensures { IfOk result (λ p. (map_factory (pipeline_factory_part p) ≡ pipeline_factory_part self)
+            × (map_factory_closure (pipeline_factory_part p) ≡ f)) }
     {
         let PipelineFactory {
             factory: first,
@@ -107,7 +110,8 @@ where
     ) -> Result<PipelineFactory<MapErrServiceFactory<SF, Req, F, E>, Req>, AllocError>
     where
         F: Fn(SF::Error) -> E + Drop,
-        ensures { IfOk result (λ p. (p.factory.factory ≡ self.factory) × (arc_value p.factory.f ≡ f)) }
+        ensures { IfOk result (λ p. (map_err_factory (pipeline_factory_part p) ≡ pipeline_factory_part self)
+            × (map_err_factory_closure (pipeline_factory_part p) ≡ f)) }
     {
         let PipelineFactory {
             factory: first,
@@ -128,7 +132,8 @@ where
     ) -> Result<PipelineFactory<MapInitErr<SF, F, Req, E>, Req>, AllocError>
     where
         F: Fn(SF::InitError) -> E + Drop,
-        ensures { IfOk result (λ p. (p.factory.factory ≡ self.factory) × (arc_value p.factory.f ≡ f)) }
+        ensures { IfOk result (λ p. (map_init_err_factory (pipeline_factory_part p) ≡ pipeline_factory_part self)
+            × (map_init_err_closure (pipeline_factory_part p) ≡ f)) }
     {
         let PipelineFactory {
             factory: first,
@@ -143,7 +148,7 @@ where
 }
 
 impl<SF: Clone, Req> Clone for PipelineFactory<SF, Req> {
-    ghost is_clone = { λ p copy. SF.is_clone p.factory copy.factory };
+    ghost is_clone = { λ p copy. SF.is_clone (pipeline_factory_part p) (pipeline_factory_part copy) };
 
     fn clone(&self) -> Result<PipelineFactory<SF, Req>, AllocError> {
         let factory = self.factory.clone()?;
@@ -161,7 +166,7 @@ where
     /// A copy. It makes what this factory makes, where a clone of the part makes what the part makes.
     pub fn clone(&self) -> Result<PipelineFactory<SF, Req>, AllocError>
         ensures clone { IfOk result (⟦<PipelineFactory<SF, Req> as Clone>⟧.is_clone self.now) }
-        ensures meaning { IfOk result (λ copy. MakesSame ⟦<SF as ServiceFactory<Req>>⟧ self.now.factory copy.factory
+        ensures meaning { IfOk result (λ copy. MakesSame SF.ServiceFactory (pipeline_factory_part self.now) (pipeline_factory_part copy)
             → MakesSame ⟦<PipelineFactory<SF, Req> as ServiceFactory<Req>>⟧ self.now copy) }
     {
         let copy = Clone::clone(self)?;
@@ -182,19 +187,19 @@ impl<SF: ServiceFactory<Req>, Req> ServiceFactory<Req> for PipelineFactory<SF, R
 
     type Future = SF::Future;
 
-    ghost can_make = { λ p. SF.can_make p.factory };
+    ghost can_make = { λ p. SF.can_make (pipeline_factory_part p) };
 
-    ghost may = { λ p. SF.may p.factory };
+    ghost may = { λ p. SF.may (pipeline_factory_part p) };
 
-    ghost may_ready = { λ p. SF.may_ready p.factory };
+    ghost may_ready = { λ p. SF.may_ready (pipeline_factory_part p) };
 
-    ghost may_begin = { λ p. SF.may_begin p.factory };
+    ghost may_begin = { λ p. SF.may_begin (pipeline_factory_part p) };
 
-    ghost may_init = { λ p. SF.may_init p.factory };
+    ghost may_init = { λ p. SF.may_init (pipeline_factory_part p) };
 
-    ghost may_make = { λ p. SF.may_make p.factory };
+    ghost may_make = { λ p. SF.may_make (pipeline_factory_part p) };
 
-    ghost begun_gives = { λ p. SF.begun_gives p.factory };
+    ghost begun_gives = { λ p. SF.begun_gives (pipeline_factory_part p) };
 
     fn new_service(&self, cfg: SF::Config) -> SF::Future {
         self.factory.new_service(cfg)

@@ -1,5 +1,5 @@
 ghost use Rattle.std.specs.Prelude.{◌≡◌, IfOk};
-ghost use Rattle.std.specs.Arc.{arc_value};
+ghost use Rattle.service_combine.specs.Shown.{and_then_first, and_then_second, map_closure, map_err_closure, map_err_part, map_part};
 
 use crate::{AndThenService, Map, MapErr};
 use service_core::{IntoService, Service};
@@ -12,7 +12,7 @@ pub trait ServiceExt<Req>: Service<Req> {
     where
         Self: Sized + Drop,
         F: Fn(Self::Response) -> R + Drop,
-        ensures { IfOk result (λ m. (m.service ≡ self) × (arc_value m.f ≡ f)) }
+        ensures { IfOk result (λ m. (map_part m ≡ self) × (map_closure m ≡ f)) }
     {
         Map::new(alloc, self, f)
     }
@@ -22,7 +22,7 @@ pub trait ServiceExt<Req>: Service<Req> {
     where
         Self: Sized + Drop,
         F: Fn(Self::Error) -> E + Drop,
-        ensures { IfOk result (λ m. (m.service ≡ self) × (arc_value m.f ≡ f)) }
+        ensures { IfOk result (λ m. (map_err_part m ≡ self) × (map_err_closure m ≡ f)) }
     {
         MapErr::new(alloc, self, f)
     }
@@ -37,7 +37,7 @@ pub trait ServiceExt<Req>: Service<Req> {
         Self: Sized + Drop,
         I: IntoService<S1, Self::Response>,
         S1: Service<Self::Response, Error = Self::Error> + Drop,
-        ensures { IfOk result (λ s. ((arc_value s.parts).0 ≡ self) × I.turns_into service (arc_value s.parts).1) }
+        ensures { IfOk result (λ s. (and_then_first s ≡ self) × I.turns_into service (and_then_second s)) }
     {
         AndThenService::new(alloc, self, service.into_service())
     }

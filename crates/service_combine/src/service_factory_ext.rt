@@ -1,5 +1,6 @@
 ghost use Rattle.std.specs.Prelude.{◌≡◌, IfOk};
-ghost use Rattle.std.specs.Arc.{arc_value};
+ghost use Rattle.service_combine.specs.Shown.{and_then_first_factory, and_then_second_factory, map_err_factory, map_err_factory_closure};
+ghost use Rattle.service_combine.specs.Shown.{map_factory, map_factory_closure, map_init_err_closure, map_init_err_factory};
 
 use crate::{AndThenServiceFactory, MapErrServiceFactory, MapInitErr, MapServiceFactory};
 use service_core::{IntoServiceFactory, ServiceFactory};
@@ -16,7 +17,7 @@ pub trait ServiceFactoryExt<Req>: ServiceFactory<Req> {
     where
         Self: Sized + Drop,
         F: Fn(Self::Response) -> R + Drop,
-        ensures { IfOk result (λ m. (m.factory ≡ self) × (arc_value m.f ≡ f)) }
+        ensures { IfOk result (λ m. (map_factory m ≡ self) × (map_factory_closure m ≡ f)) }
     {
         MapServiceFactory::new(alloc, self, f)
     }
@@ -30,7 +31,7 @@ pub trait ServiceFactoryExt<Req>: ServiceFactory<Req> {
     where
         Self: Sized + Drop,
         F: Fn(Self::Error) -> E + Drop,
-        ensures { IfOk result (λ m. (m.factory ≡ self) × (arc_value m.f ≡ f)) }
+        ensures { IfOk result (λ m. (map_err_factory m ≡ self) × (map_err_factory_closure m ≡ f)) }
     {
         MapErrServiceFactory::new(alloc, self, f)
     }
@@ -44,7 +45,7 @@ pub trait ServiceFactoryExt<Req>: ServiceFactory<Req> {
     where
         Self: Sized + Drop,
         F: Fn(Self::InitError) -> E + Drop,
-        ensures { IfOk result (λ m. (m.factory ≡ self) × (arc_value m.f ≡ f)) }
+        ensures { IfOk result (λ m. (map_init_err_factory m ≡ self) × (map_init_err_closure m ≡ f)) }
     {
         MapInitErr::new(alloc, self, f)
     }
@@ -65,7 +66,7 @@ pub trait ServiceFactoryExt<Req>: ServiceFactory<Req> {
             InitError = Self::InitError,
         >
             + Drop,
-        ensures { IfOk result (λ f. ((arc_value f.parts).0 ≡ self) × I.turns_into factory (arc_value f.parts).1) }
+        ensures { IfOk result (λ f. (and_then_first_factory f ≡ self) × I.turns_into factory (and_then_second_factory f)) }
     {
         AndThenServiceFactory::new(alloc, self, factory.into_factory())
     }

@@ -1,10 +1,12 @@
 ghost use Rattle.std.specs.Prelude.{◌≡◌, IfOk};
 ghost use Rattle.std.specs.Arc.{arc_value};
 ghost use Rattle.service_core.specs.Meaning.{GivesOnly};
-ghost use Rattle.service_combine.specs.Meaning.{Follows, OrRefused};
+ghost use Rattle.service_combine.specs.Equations.{ThenMay};
 ghost use Rattle.service_combine.specs.Readying.{BothReady};
+ghost use Rattle.service_combine.specs.Shown.{then_first, then_second};
 
 use crate::ThenServiceResponse;
+use crate::both_ready::both_ready;
 use crate::two_stages::TwoStages;
 use futures::Future;
 use futures::task::{Context, Poll};
@@ -44,7 +46,7 @@ where
 }
 
 impl<A: Drop, B: Drop, Req> Clone for ThenService<A, B, Req> {
-    ghost is_clone = { λ s copy. arc_value copy.parts ≡ arc_value s.parts };
+    ghost is_clone = { λ s copy. (then_first copy ≡ then_first s) × (then_second copy ≡ then_second s) };
 
     fn clone(&self) -> Result<ThenService<A, B, Req>, AllocError> {
         let parts = Arc::try_clone(&self.parts)?;
@@ -67,29 +69,19 @@ where
 
     type Future = ThenServiceResponse<A, B, Req>;
 
-    ghost can_call = { λ s. A.can_call (arc_value s.parts).0 × B.can_call (arc_value s.parts).1 };
+    ghost can_call = { λ s. A.can_call (then_first s) × B.can_call (then_second s) };
 
-    ghost may = { λ s q. OrRefused (Follows (A.may (arc_value s.parts).0 q) (B.may (arc_value s.parts).1))
-        A.Error.refusal };
+    ghost may = { ThenMay A.Service B.Service A.Error.refusal };
 
     ghost may_begin = { λ s q f. GivesOnly ⟦<ThenServiceResponse<A, B, Req> as Future>⟧ f
-        (OrRefused (Follows (A.may (arc_value s.parts).0 q) (B.may (arc_value s.parts).1)) A.Error.refusal) };
+        (ThenMay A.Service B.Service A.Error.refusal s q) };
 
-    ghost may_ready = { λ s. BothReady (A.may_ready (arc_value s.parts).0) (B.may_ready (arc_value s.parts).1) };
+    ghost may_ready = { λ s. BothReady (A.may_ready (then_first s)) (B.may_ready (then_second s)) };
 
     ghost begun_gives = { λ s q f begun. begun };
 
     fn poll_ready(&self, cx: &mut Context<'_>) -> Poll<Result<(), A::Error>> {
-        let (first, second) = &*self.parts;
-        match first.poll_ready(cx) {
-            Poll::Ready(Err(e)) => Poll::Ready(Err(e)),
-            Poll::Ready(Ok(())) => second.poll_ready(cx),
-            Poll::Pending => match second.poll_ready(cx) {
-                Poll::Ready(Err(e)) => Poll::Ready(Err(e)),
-                Poll::Ready(Ok(())) => Poll::Pending,
-                Poll::Pending => Poll::Pending,
-            },
-        }
+        both_ready::<A, B, Req, Result<A::Response, A::Error>>(&self.parts.0, &self.parts.1, cx)
     }
 
     fn call(&self, req: Req) -> ThenServiceResponse<A, B, Req> {

@@ -2,7 +2,8 @@ ghost use Rattle.std.specs.Prelude.{◌≡◌, ⊤, MatchResult};
 ghost use Rattle.std.specs.Arc.{arc_value};
 ghost use Rattle.futures.specs.Poll.{IfReady, OnPending};
 ghost use Rattle.service_core.specs.Polls.{Polls};
-ghost use Rattle.service_combine.specs.Making.{MadeOr, WithPart};
+ghost use Rattle.service_combine.specs.Making.{WithPart};
+ghost use Rattle.service_combine.specs.Meaning.{OrRefused};
 ghost use Rattle.service_combine.specs.Pairing.{BothWaited, PairErrs};
 ghost use Rattle.service_combine.specs.declared.both.Both.TheVariants.{Refused};
 
@@ -68,7 +69,7 @@ where
 
     ghost needs = { λ m. ⟦<Both<A::Future, B::Future, A::Service, B::Service> as Future>⟧.needs m.making };
 
-    ghost gives = { λ m. MadeOr (WithPart (λ made. arc_value made.parts) (λ _. ⊤)
+    ghost gives = { λ m. OrRefused (WithPart (λ made. arc_value made.parts) (λ _. ⊤)
         (⟦<Both<A::Future, B::Future, A::Service, B::Service> as Future>⟧.gives m.making)) A.InitError.refusal };
 
     fn poll(

@@ -2,7 +2,7 @@ ghost use Rattle.std.specs.Prelude.{◌≡◌, ⊤, Err};
 ghost use Rattle.std.specs.Arc.{arc_value};
 ghost use Rattle.futures.specs.Poll.{OnPending};
 ghost use Rattle.service_core.specs.Polls.{Polls};
-ghost use Rattle.service_combine.specs.Meaning.{Follows};
+ghost use Rattle.service_core.specs.Meaning.{Follows};
 ghost use Rattle.service_combine.specs.Waits.{TwoWaited};
 ghost use Rattle.service_combine.specs.declared.two_stages.TwoStages.TheVariants.{First, Second, Refused, Done};
 

@@ -1,5 +1,5 @@
 ghost use Rattle.std.specs.Prelude.{◌≡◌, IfOk};
-ghost use Rattle.std.specs.Arc.{arc_value};
+ghost use Rattle.service_combine.specs.Shown.{map_init_err_transform, map_init_err_transform_closure};
 
 use crate::TransformMapInitErr;
 use service_core::Transform;
@@ -16,7 +16,7 @@ pub trait TransformExt<S, Req>: Transform<S, Req> {
     where
         Self: Sized + Drop,
         F: Fn(Self::InitError) -> E + Drop,
-        ensures { IfOk result (λ m. (m.transform ≡ self) × (arc_value m.f ≡ f)) }
+        ensures { IfOk result (λ m. (map_init_err_transform m ≡ self) × (map_init_err_transform_closure m ≡ f)) }
     {
         TransformMapInitErr::new(alloc, self, f)
     }

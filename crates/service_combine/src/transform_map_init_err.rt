@@ -1,7 +1,7 @@
 ghost use Rattle.std.specs.Prelude.{◌≡◌, ◌⊎◌, IfOk};
-ghost use Rattle.std.specs.Arc.{arc_value};
-ghost use Rattle.service_combine.specs.Configuring.{Through};
+ghost use Rattle.service_core.specs.Meaning.{Follows};
 ghost use Rattle.service_combine.specs.Same.{WrapsSame};
+ghost use Rattle.service_combine.specs.Shown.{map_init_err_transform, map_init_err_transform_closure};
 
 use crate::one_stage::OneStage;
 use crate::{MapErrFuture, TransformMapInitErrFuture};
@@ -29,7 +29,7 @@ where
         transform: T,
         f: F,
     ) -> Result<TransformMapInitErr<T, S, Req, F, E>, AllocError>
-        ensures { IfOk result (λ m. (m.transform ≡ transform) × (arc_value m.f ≡ f)) }
+        ensures { IfOk result (λ m. (map_init_err_transform m ≡ transform) × (map_init_err_transform_closure m ≡ f)) }
     {
         let f = Arc::new(alloc, f)?;
         Ok(TransformMapInitErr {
@@ -41,7 +41,8 @@ where
 }
 
 impl<T: Clone, S, Req, F: Drop, E> Clone for TransformMapInitErr<T, S, Req, F, E> {
-    ghost is_clone = { λ m copy. T.is_clone m.transform copy.transform × (arc_value copy.f ≡ arc_value m.f) };
+    ghost is_clone = { λ m copy. T.is_clone (map_init_err_transform m) (map_init_err_transform copy)
+        × (map_init_err_transform_closure copy ≡ map_init_err_transform_closure m) };
 
     fn clone(&self) -> Result<TransformMapInitErr<T, S, Req, F, E>, AllocError> {
         let transform = self.transform.clone()?;
@@ -65,7 +66,7 @@ where
     /// wraps.
     pub fn clone(&self) -> Result<TransformMapInitErr<T, S, Req, F, E>, AllocError>
         ensures clone { IfOk result (⟦<TransformMapInitErr<T, S, Req, F, E> as Clone>⟧.is_clone self.now) }
-        ensures meaning { IfOk result (λ copy. WrapsSame ⟦<T as Transform<S, Req>>⟧ self.now.transform copy.transform
+        ensures meaning { IfOk result (λ copy. WrapsSame ⟦<T as Transform<S, Req>>⟧ (map_init_err_transform self.now) (map_init_err_transform copy)
             → WrapsSame ⟦<TransformMapInitErr<T, S, Req, F, E> as Transform<S, Req>>⟧ self.now copy) }
     {
         let copy = Clone::clone(self)?;
@@ -90,15 +91,16 @@ where
 
     type Future = TransformMapInitErrFuture<T::Future, F>;
 
-    ghost can_make = { λ m s. T.can_make m.transform s × F.IsAlwaysCallable (arc_value m.f) };
+    ghost can_make = { λ m s. T.can_make (map_init_err_transform m) s × F.IsAlwaysCallable (map_init_err_transform_closure m) };
 
-    ghost may = { λ m. T.may m.transform };
+    ghost may = { λ m. T.may (map_init_err_transform m) };
 
-    ghost may_ready = { λ m. T.may_ready m.transform };
+    ghost may_ready = { λ m. T.may_ready (map_init_err_transform m) };
 
-    ghost may_init = { λ m e. Through (T.may_init m.transform) (λ from. F.post (arc_value m.f) from e) ⊎ (e ≡ E.refusal) };
+    ghost may_init = { λ m e. Follows (T.may_init (map_init_err_transform m)) (F.post (map_init_err_transform_closure m)) e
+        ⊎ (e ≡ E.refusal) };
 
-    ghost may_make = { λ m. T.may_make m.transform };
+    ghost may_make = { λ m. T.may_make (map_init_err_transform m) };
 
     fn new_transform(&self, service: S) -> TransformMapInitErrFuture<T::Future, F> {
         match Arc::try_clone(&self.f) {

@@ -13,7 +13,7 @@ returns-in-Pending-clause-polls g c = record {
 
 pub returns-in-Ready-Err-clause-polls : goal.returns-in-Ready-Err-clause-polls
 returns-in-Ready-Err-clause-polls g c = record {
-  value = rw c.in-First.is (record { from = Err c.in-Ready-Err.e; given = search rules; goes = inr (_, refl, refl) });
+  value = rw c.in-First.is (record { value = Err c.in-Ready-Err.e; comes = search rules; holds = inr (_, refl, refl) });
   again = search rules;
   same = search rules;
   registered = search rules;
@@ -27,9 +27,9 @@ returns-in-Pending-poll-clause-polls g c =
       value = search rules;
       again = search rules;
       same = rw c.in-First.is (λ x given. record {
-        from = Ok c.in-Ready-Ok.value;
-        given = search rules;
-        goes = inl (_, refl, second.1 x (rw c.new-second.ensures.future at (c.in-Pending-poll.ensures.same x given)));
+        value = Ok c.in-Ready-Ok.value;
+        comes = search rules;
+        holds = inl (_, refl, second.1 x (rw c.new-second.ensures.future at (c.in-Pending-poll.ensures.same x given)));
       });
       registered = search rules;
       kept = search rules;
@@ -40,9 +40,9 @@ returns-in-Ready-clause-polls g c =
     let second = g.met.B.Service.begun_gives _ _ _ (rw c.deref.ensures at c.call.ensures) in
     record {
       value = rw c.in-First.is (record {
-        from = Ok c.in-Ready-Ok.value;
-        given = search rules;
-        goes = inl (_, refl, second.1 _ (rw c.new-second.ensures.future at c.in-Ready.ensures.value));
+        value = Ok c.in-Ready-Ok.value;
+        comes = search rules;
+        holds = inl (_, refl, second.1 _ (rw c.new-second.ensures.future at c.in-Ready.ensures.value));
       });
       again = search rules;
       same = search rules;

@@ -9,7 +9,7 @@ returns-in-Pending-clause-polls g c =
     record {
       value = tt;
       again = (c.in-Pending.ensures.polls.again, λ s given. can.1 s (c.in-Pending.ensures.polls.same (Ok s) given));
-      same = rw (sym c.in-First.ensures.value) (ThroughService-within _ _ _ _ c.in-Pending.ensures.polls.same);
+      same = rw (sym c.in-First.ensures.value) (ThroughService-within _ g.Fut.Future.gives _ _ c.in-Pending.ensures.polls.same);
       registered = search rules;
       kept = search rules;
     }
@@ -35,7 +35,7 @@ returns-in-Pending-poll-clause-polls g c =
       value = tt;
       again = search rules;
       same = λ x given. rw (sym c.in-First.ensures.value)
-          (from-polled _ _ _ c.poll.result c.poll.ensures.polls.value _ c.in-Ready-Ok.is _ c.in-Ready-Ok.field-0-is _ answered x
+          (from-polled _ g.Fut.Future.gives _ c.poll.result c.poll.ensures.polls.value _ c.in-Ready-Ok.is _ c.in-Ready-Ok.field-0-is _ answered x
           (subst (λ f. g.Fut.Future.gives f x) c.new-future.ensures.future (c.in-Pending-poll.ensures.same x given)));
       registered = search rules;
       kept = search rules;
@@ -47,7 +47,7 @@ returns-in-First-clause-polls g c =
     record { lent = _; is = refl; answered = rw c.deref.ensures at c.call.ensures } in
     record {
       value = rw (sym c.in-First.ensures.value)
-          (from-polled _ _ _ c.poll.result c.poll.ensures.polls.value _ c.in-Ready-Ok.is _ c.in-Ready-Ok.field-0-is _ answered _
+          (from-polled _ g.Fut.Future.gives _ c.poll.result c.poll.ensures.polls.value _ c.in-Ready-Ok.is _ c.in-Ready-Ok.field-0-is _ answered _
           (subst (λ f. g.Fut.Future.gives f c.in-Ready.made) c.new-future.ensures.future c.in-Ready.ensures.value));
       again = tt;
       same = tt;

@@ -10,11 +10,11 @@ returns-in-Ok-clause-made g c =
     _ c.new_service.ensures.made
     (λ made same lies. record {
       callable = (lies.callable, rw (same ∙ c.in-Ok.ensures) (c.requires.1 _ lies.callable));
-      answers = λ q r given. record { made = made.service; lies = lies; holds = rw (same ∙ c.in-Ok.ensures) at given };
+      answers = λ q r given. record { value = made.service; comes = lies; holds = rw (same ∙ c.in-Ok.ensures) at given };
       readiness = lies.readiness;
       futures = λ q f begun.
           let answered = rw (same ∙ c.in-Ok.ensures) at begun.0 in
-          (record { made = made.service; lies = lies; holds = answered }, begun.1);
+          (record { value = made.service; comes = lies; holds = answered }, begun.1);
     })
     (λ e init. inl init) r (WithPart-pair (λ made. made.service) (λ made. made.wrap_fn) (λ f. arc_value f ≡ arc_value c.in-Ok.f)
     (g.SF.Future.Future.gives c.new_service.result) r given))

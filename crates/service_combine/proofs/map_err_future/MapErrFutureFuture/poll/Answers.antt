@@ -13,7 +13,7 @@ returns-in-Pending-clause-polls g c = record {
 
 pub returns-in-Ready-Ok-clause-polls : goal.returns-in-Ready-Ok-clause-polls
 returns-in-Ready-Ok-clause-polls g c = record {
-  value = rw c.in-Waiting.is (record { from = Ok c.in-Ready-Ok.value; given = search rules; goes = inl (_, refl, refl) });
+  value = rw c.in-Waiting.is (record { value = Ok c.in-Ready-Ok.value; comes = search rules; holds = inl (_, refl, refl) });
   again = search rules;
   same = search rules;
   registered = search rules;
@@ -22,7 +22,7 @@ returns-in-Ready-Ok-clause-polls g c = record {
 
 pub returns-in-Ready-Err-clause-polls : goal.returns-in-Ready-Err-clause-polls
 returns-in-Ready-Err-clause-polls g c = record {
-  value = rw c.in-Waiting.is (record { from = Err c.in-Ready-Err.e; given = search rules; goes = inr (_, _, refl, refl, search rules) });
+  value = rw c.in-Waiting.is (record { value = Err c.in-Ready-Err.e; comes = search rules; holds = inr (_, _, refl, refl, search rules) });
   again = search rules;
   same = search rules;
   registered = search rules;

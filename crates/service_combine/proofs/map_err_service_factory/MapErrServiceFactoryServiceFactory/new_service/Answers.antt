@@ -1,6 +1,7 @@
 use Rattle.std.proofs.Common.{inl, ◌≡◌, ◌∙◌}
 use Rattle.std.specs.Arc.{arc_value}
-use Rattle.service_combine.proofs.MeaningLemmas.{Follows-within, ReadyErrBy-within, OrRefused-within, Makes-part, WithPart-pair}
+use Rattle.service_combine.proofs.MeaningLemmas.{ReadyErrBy-within, Makes-part, WithPart-pair}
+use Rattle.service_combine.proofs.SameLemmas.{OrElse-within, Through-comes}
 use Rattle.service_combine.proofs.map_err_service_factory.MapErrServiceFactoryServiceFactory.new_service.Goals as goal
 
 pub returns-in-Ok-clause-made : goal.returns-in-Ok-clause-made
@@ -10,12 +11,12 @@ returns-in-Ok-clause-made g c =
     _ c.new_service.ensures.made
     (λ made same lies. record {
       callable = (lies.callable, rw (same ∙ c.in-Ok.ensures) c.requires.1);
-      answers = λ q r given. OrRefused-within _ _ _ (Follows-within _ _ _ (lies.answers q)) r (rw (same ∙ c.in-Ok.ensures) at given);
+      answers = λ q r given. OrElse-within (Through-comes (lies.answers q)) (rw (same ∙ c.in-Ok.ensures) at given);
       readiness = λ a ready. ReadyErrBy-within _ _ _ lies.readiness a (rw (same ∙ c.in-Ok.ensures) at ready);
       futures = λ q f begun. (
         begun.0,
         λ r given.
-            OrRefused-within _ _ _ (Follows-within _ _ _ (lies.answers q)) r (rw (same ∙ c.in-Ok.ensures) at (begun.1 r given)),
+            OrElse-within (Through-comes (lies.answers q)) (rw (same ∙ c.in-Ok.ensures) at (begun.1 r given)),
       );
     })
     (λ e init. inl init) r (WithPart-pair (λ made. made.service) (λ made. made.f) (λ f. arc_value f ≡ arc_value c.in-Ok.f)

@@ -1,5 +1,4 @@
-use Rattle.service_combine.proofs.MeaningLemmas.{Follows-within, OrRefused-within}
-use Rattle.service_combine.proofs.SameLemmas.{OrElse-within}
+use Rattle.service_combine.proofs.SameLemmas.{OrElse-within, Through-comes}
 use Rattle.service_combine.proofs.map_service_factory.MapServiceFactory.clone.Goals as goal
 
 pub returns-clause-meaning : goal.returns-clause-meaning
@@ -8,13 +7,13 @@ returns-clause-meaning g c =
     λ same. record {
       callable = (λ can. (same.callable.0 can.0, rw is.1 at can.1), λ can. (same.callable.1 can.0, rw is.1 can.1));
       answers = λ cfg q. (
-        λ r may. OrRefused-within _ _ _ (Follows-within _ _ _ (same.answers cfg q).0) r (rw is.1 at may),
-        λ r may. rw is.1 (OrRefused-within _ _ _ (Follows-within _ _ _ (same.answers cfg q).1) r may),
+        λ r may. OrElse-within (Through-comes (same.answers cfg q).0) (rw is.1 at may),
+        λ r may. rw is.1 (OrElse-within (Through-comes (same.answers cfg q).1) may),
       );
       readiness = same.readiness;
       futures = λ cfg q. (
-        λ f begun. (begun.0, λ r may. OrRefused-within _ _ _ (Follows-within _ _ _ (same.answers cfg q).0) r (rw is.1 at (begun.1 r may))),
-        λ f begun. (begun.0, λ r may. rw is.1 (OrRefused-within _ _ _ (Follows-within _ _ _ (same.answers cfg q).1) r (begun.1 r may))),
+        λ f begun. (begun.0, λ r may. OrElse-within (Through-comes (same.answers cfg q).0) (rw is.1 at (begun.1 r may))),
+        λ f begun. (begun.0, λ r may. rw is.1 (OrElse-within (Through-comes (same.answers cfg q).1) (begun.1 r may))),
       );
       errors = λ cfg. (λ e. OrElse-within ((same.errors cfg).0 e), λ e. OrElse-within ((same.errors cfg).1 e));
       makes = same.makes;

@@ -18,9 +18,9 @@ returns-in-Pending-poll-clause-polls g c =
       value = search rules;
       again = search rules;
       same = rw c.in-First.is (λ x given. record {
-        from = c.in-Ready.result;
-        given = search rules;
-        goes = second.1 x (rw c.new-second.ensures.future at (c.in-Pending-poll.ensures.same x given));
+        value = c.in-Ready.result;
+        comes = search rules;
+        holds = second.1 x (rw c.new-second.ensures.future at (c.in-Pending-poll.ensures.same x given));
       });
       registered = search rules;
       kept = search rules;
@@ -31,9 +31,9 @@ returns-in-Ready-poll-clause-polls g c =
     let second = g.met.B.Service.begun_gives _ _ _ (rw c.deref.ensures at c.call.ensures) in
     record {
       value = rw c.in-First.is (record {
-        from = c.in-Ready.result;
-        given = search rules;
-        goes = second.1 _ (rw c.new-second.ensures.future at c.in-Ready-poll.ensures.value);
+        value = c.in-Ready.result;
+        comes = search rules;
+        holds = second.1 _ (rw c.new-second.ensures.future at c.in-Ready-poll.ensures.value);
       });
       again = search rules;
       same = search rules;
