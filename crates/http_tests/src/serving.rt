@@ -31,21 +31,23 @@ pub(crate) fn handler(alloc: Global) -> Result<H1ServiceHandler<Echo>, AllocErro
 }
 
 // Whether the connection ended so, and this was written.
+fn is_ended(ended: &Ended<TestLink>, how: Option<How>, text: &[u8]) -> Result<bool, AllocError> {
+    if ended.how == How::Memory {
+        return Err(AllocError);
+    }
+    Ok(Some(ended.how) == how && ended.link.is_written(text))
+}
+
+// The same, where the service may have ended by an error.
 fn has_ended(
-    given: Result<Ended<TestLink>, EchoError>,
+    given: &Result<Ended<TestLink>, EchoError>,
     how: Option<How>,
     text: &[u8],
 ) -> Result<bool, AllocError> {
     match given {
+        Ok(ended) => is_ended(ended, how, text),
         Err(EchoError::Missing) => Ok(false),
         Err(EchoError::Memory) => Err(AllocError),
-        Ok(
-            Ended {
-                link: _,
-                how: How::Memory,
-            },
-        ) => Err(AllocError),
-        Ok(ended) => Ok(Some(ended.how) == how && ended.link.is_written(text)),
     }
 }
 
@@ -63,10 +65,21 @@ where
 {
     for _ in 0..polls {
         if let Poll::Ready(given) = task.poll(&mut future) {
-            return has_ended(given, how, text);
+            return has_ended(&given, how, text);
         }
     }
     Ok(how.is_none() && future.into_link().is_written(text))
+}
+
+// The same of a service of the link.
+fn is_served_by(
+    task: &MockTask,
+    handler: &H1ServiceHandler<Echo>,
+    served: (TestLink, usize),
+    how: Option<How>,
+    text: &[u8],
+) -> Result<bool, AllocError> {
+    polled(task, handler.call(served.0), served.1, how, text)
 }
 
 /// Whether the service of a link over these bytes ends so within so many polls, or not at all, and wrote this.
@@ -79,6 +92,5 @@ pub(crate) fn is_served(
 ) -> Result<bool, AllocError> {
     let (bytes, way, polls) = served;
     let link = TestLink::new(alloc, bytes, way)?;
-    let handler = handler(alloc)?;
-    polled(task, handler.call(link), polls, how, text)
+    is_served_by(task, &handler(alloc)?, (link, polls), how, text)
 }
