@@ -2,7 +2,7 @@
 use server_program::{MemorySink, MemorySource, run};
 use server_run::Host;
 use service_core::Octets;
-use std::alloc::{AllocError, Global};
+use std::alloc::{AllocError, AllocGlobal, Global};
 use std::test::Fail;
 
 const NEVER: u64 = u64::MAX;
@@ -67,7 +67,7 @@ fn status_of<Ho: Host>(
 }
 
 // The status of a run, and what the sink got.
-fn replayed<Ho: Host>(
+fn replayed<Ho: Host + AllocGlobal>(
     rt: &Ho,
     words: &[&str],
     script: &[u8],
@@ -81,7 +81,7 @@ fn replayed<Ho: Host>(
 }
 
 // Whether a run of these words ends with the status and the text.
-fn ends<Ho: Host>(
+fn ends<Ho: Host + AllocGlobal>(
     rt: &Ho,
     words: &[&str],
     faults: Faults,
@@ -123,13 +123,13 @@ const GET: &[u8] =
     b"listener\nconn local\ngive \\x47\\x45\\x54\\x20\\x2f\\x20\\x48\\x54\\x54\\x50\\x2f\\x31\\x2e\\x31\\x0d\\x0a\\x48\\x6f\\x73\\x74\\x3a\\x20\\x61\\x0d\\x0a\\x0d\\x0a";
 
 // Whether the run of a GET whose source fails at this call, and whose sink fails at that one, ends with the status.
-fn has_status<Ho: Host>(rt: &Ho, read: u64, write: u64, wanted: u8) -> Result<bool, AllocError> {
+fn has_status<Ho: Host + AllocGlobal>(rt: &Ho, read: u64, write: u64, wanted: u8) -> Result<bool, AllocError> {
     let (status, _) = replayed(rt, &["replay"], GET, fails(read, write))?;
     Ok(status == wanted)
 }
 
 // Whether each of six reads that fails is told. One read gives the script, and one more finds its end.
-fn tells_reads<Ho: Host>(rt: &Ho) -> Result<bool, AllocError> {
+fn tells_reads<Ho: Host + AllocGlobal>(rt: &Ho) -> Result<bool, AllocError> {
     for call in 0..6 {
         let wanted = if call < 2 { 5 } else { 0 };
         if !has_status(rt, call, NEVER, wanted)? {
@@ -147,7 +147,7 @@ fn each_read_that_fails_is_told(rt: HostRuntime) -> Result<(), Fail> {
 
 // Whether each of four writes that fails is told, where no read fails and where the first one does. One write takes
 // the whole report, and one the text of a read that failed.
-fn tells_writes<Ho: Host>(rt: &Ho) -> Result<bool, AllocError> {
+fn tells_writes<Ho: Host + AllocGlobal>(rt: &Ho) -> Result<bool, AllocError> {
     for call in 0..4 {
         let whole = if call == 0 { 6 } else { 0 };
         let failed = if call == 0 { 6 } else { 5 };
