@@ -8,6 +8,8 @@ mod asking;
 #[cfg(test)]
 mod building;
 #[cfg(test)]
+mod copy_tests;
+#[cfg(test)]
 mod empty_answers;
 #[cfg(test)]
 mod inner;
