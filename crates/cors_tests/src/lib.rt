@@ -12,6 +12,8 @@ mod copy_tests;
 #[cfg(test)]
 mod empty_answers;
 #[cfg(test)]
+mod init_error_tests;
+#[cfg(test)]
 mod inner;
 #[cfg(test)]
 mod law_tests;
