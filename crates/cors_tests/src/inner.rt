@@ -10,7 +10,7 @@ use service_core::{Ready, Service, err, ok};
 use std::alloc::{AllocError, Global};
 
 /// 200 and `Hello world!` as plain text to every request, or else 204.
-#[derive(Drop)]
+#[derive(Clone, Drop)]
 pub(crate) struct Inner {
     pub(crate) alloc: Global,
     pub(crate) is_empty: bool,

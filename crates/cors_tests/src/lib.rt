@@ -8,7 +8,11 @@ mod asking;
 #[cfg(test)]
 mod building;
 #[cfg(test)]
+mod copy_tests;
+#[cfg(test)]
 mod empty_answers;
+#[cfg(test)]
+mod init_error_tests;
 #[cfg(test)]
 mod inner;
 #[cfg(test)]
