@@ -1,5 +1,5 @@
 -- The lines of a policy, one after the other.
-use Rattle.std.proofs.Common.{◌≡◌, ◌<◌, ◌+◌, ◌==◌, ℕ, not, true, List, [], ◌∷◌, ◌++◌, length, drop, get_or, refl, sym, ◌∙◌, ap, arith}
+use Rattle.std.proofs.Common.{◌≡◌, ◌<◌, ◌+◌, ℕ, List, [], ◌∷◌, ◌++◌, length, drop, get_or, refl, sym, ◌∙◌, ap}
 use Rattle.std.proofs.lemmas.List.{at_drop_more}
 use Rattle.cors_rules.specs.Policy.{Builder}
 use Rattle.script.specs.PolicyText.{and_line, and_lines}

@@ -1,8 +1,7 @@
 -- The rules that a script's policy may have beside its origins.
-use Rattle.std.specs.Prelude.{ℕ, Bool, true, List, is_some, nat_eq, codes}
+use Rattle.std.specs.Prelude.{true, is_some, nat_eq, codes}
 use Rattle.std.specs.List.{ends_with}
 use Rattle.http1_grammar.specs.Headers.{get}
-use Rattle.http1_grammar.specs.Head.{Head}
 use Rattle.cors_rules.specs.Origins.{Rules}
 use Rattle.script.specs.declared.policy.script_rule.ScriptRule.{ScriptRule}
 use Rattle.script.specs.declared.policy.script_rule.ScriptRule.TheVariants.{Always, Dnt, RustLang}

@@ -3,7 +3,7 @@ use Rattle.std.specs.Option.{option_map}
 use Rattle.std.proofs.lemmas.List.{take_rest}
 use Rattle.script.specs.declared.line.Line.TheVariants.{Conn}
 use Rattle.script.specs.Script.{peer_of}
-use Rattle.script.proofs.OneLine.{conn_line, give_line, other_line}
+use Rattle.script.proofs.OneLine.{conn_line, give_line}
 use Rattle.script.proofs.line.read_line.Goals as goal
 
 pub returns-then-starts_with-2 : goal.returns-then-starts_with-2
