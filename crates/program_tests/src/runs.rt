@@ -123,7 +123,12 @@ const GET: &[u8] =
     b"listener\nconn local\ngive \\x47\\x45\\x54\\x20\\x2f\\x20\\x48\\x54\\x54\\x50\\x2f\\x31\\x2e\\x31\\x0d\\x0a\\x48\\x6f\\x73\\x74\\x3a\\x20\\x61\\x0d\\x0a\\x0d\\x0a";
 
 // Whether the run of a GET whose source fails at this call, and whose sink fails at that one, ends with the status.
-fn has_status<Ho: Host + AllocGlobal>(rt: &Ho, read: u64, write: u64, wanted: u8) -> Result<bool, AllocError> {
+fn has_status<Ho: Host + AllocGlobal>(
+    rt: &Ho,
+    read: u64,
+    write: u64,
+    wanted: u8,
+) -> Result<bool, AllocError> {
     let (status, _) = replayed(rt, &["replay"], GET, fails(read, write))?;
     Ok(status == wanted)
 }
