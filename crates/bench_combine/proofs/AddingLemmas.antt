@@ -42,7 +42,7 @@ module _ {E : Type 0} (k n : ℕ) (may : Result ℕ E → Type 0) (turned : ℕ 
       → ((b c : ℕ) → turned b c → c ≡ (b + 1) % 2 ^ 32)
       → (r : Result ℕ E) (a : ℕ) → r ≡ Ok a → OrRefused (Mapped may turned) refusal r → a ≡ (n + (k + 1)) % 2 ^ 32
   mapped-adds refusal adds turns r a is (inl follows) =
-      mapped-from adds turns follows.from r a is follows.given follows.goes
+      mapped-from adds turns follows.value r a is follows.comes follows.holds
   mapped-adds refusal adds turns r a is (inr refused) = absurd (apart r a refusal is refused)
 
 -- a map that adds one, over a service that adds k
