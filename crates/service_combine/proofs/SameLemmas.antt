@@ -1,5 +1,5 @@
 -- A meaning made of wider parts is wider: of errors, of configurations that come of others, and of services that are made.
-use Rattle.std.proofs.Common.{◌⊎◌, inl, inr, Result}
+use Rattle.std.proofs.Common.{◌⊎◌, inl, inr, Result, Ok, Err, IfOk, MatchResult}
 use Rattle.futures.specs.declared.future.Future.{Ghosts as FutureOf}
 use Rattle.service_core.specs.Meaning.{Readiness, Through, Within}
 use Rattle.service_core.specs.Making.{LiesWithin}
@@ -7,6 +7,11 @@ use Rattle.service_core.specs.declared.service.Service.{Ghosts as ServiceOf}
 use Rattle.service_combine.specs.Applying.{TakesLent}
 use Rattle.service_combine.specs.Same.{TakesSame}
 use denote.Ref.{Bor}
+
+-- more holds of a value that is there
+pub IfOk-more : {A E : Type 0} (r : Result A E) (P Q : A → Type 0) (refused : E → Type 0) → MatchResult r P refused → Within P Q → IfOk r Q
+IfOk-more (Ok x) P Q refused holds within = within x holds
+IfOk-more (Err e) P Q refused holds within = tt
 
 pub OrElse-within : {P Q other : Type 0} → (P → Q) → P ⊎ other → Q ⊎ other
 OrElse-within within (inl p) = inl (within p)

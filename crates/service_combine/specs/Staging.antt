@@ -1,7 +1,9 @@
 -- What a factory of `apply_cfg_factory` may give, stage by stage.
-use Rattle.std.specs.Prelude.{◌≡◌, ◌⊎◌, Result, Ok, Err}
+use Rattle.std.specs.Prelude.{◌≡◌, ◌⊎◌, ⊤, Result, Ok, Err}
+use Rattle.std.specs.Arc.{arc_value}
 use Rattle.futures.specs.declared.future.Future.{Ghosts as FutureOf}
-use Rattle.futures.specs.declared.task.Poll.TheVariants.{Ready as PollReady}
+use Rattle.futures.specs.declared.task.Poll.{Poll}
+use Rattle.futures.specs.declared.task.Poll.TheVariants.{Ready as PollReady, Pending}
 use Rattle.service_core.specs.Counts.{Rose}
 use Rattle.service_core.specs.Made.{MadeBy}
 use Rattle.service_core.specs.Meaning.{Follows, Readiness}
@@ -27,6 +29,12 @@ ReadyOr P ready turned (Err e) =
 abbrev pub AwaitsReady : {S E I : Type 0} → (Result S E → Type 0) → (E → I → Type 0) → Result S I → Type 0
 AwaitsReady P turned (Ok s) = P (Ok s)
 AwaitsReady P turned (Err e) = Follows (λ from. P (Err from)) turned e
+
+-- the answer, with an error changed to what `turned` allows
+abbrev pub Turns : {S E I : Type 0} → (E → I → Type 0) → Poll (Result S E) → Poll (Result S I) → Type 0
+Turns turned Pending r = r ≡ Pending
+Turns turned (PollReady (Ok s)) r = r ≡ PollReady (Ok s)
+Turns {I = I} turned (PollReady (Err from)) r = (e : I) × (r ≡ PollReady (Err e)) × turned from e
 
 -- a service that the factory f may make of c, and that may be ready
 abbrev pub ReadyBy : {M Q R E C S I U F : Type 0} → FactoryOf M Q R E C S I U F → ServiceOf S Q R E F → M → C → S → Type 0
@@ -71,3 +79,17 @@ ConfigWaited (Second old) Refused = ⊥
 ConfigWaited (Second old) Done = ⊥
 ConfigWaited Refused new = ⊥
 ConfigWaited Done new = ⊥
+
+-- the factory's service is not given yet
+abbrev pub IsFirst : {X S Q C P Y : Type 0} → ConfigStage X S Q C P Y → Type 0
+IsFirst (First making c p) = ⊤
+IsFirst (Second w) = ⊥
+IsFirst Refused = ⊥
+IsFirst Done = ⊥
+
+-- what such a stage keeps for the closure
+abbrev pub HasFirst : {X S Q C P Y : Type 0} → ConfigStage X S Q C P Y → C → P → Type 0
+HasFirst (First making c p) cfg parts = (cfg ≡ c) × (parts ≡ arc_value p)
+HasFirst (Second w) cfg parts = ⊥
+HasFirst Refused cfg parts = ⊥
+HasFirst Done cfg parts = ⊥

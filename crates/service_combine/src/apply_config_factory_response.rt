@@ -12,7 +12,6 @@ use futures::Future;
 use futures::task::{Context, Poll};
 use service_core::{NoMemory, Service, ServiceFactory, Watched};
 use std::marker::PhantomData;
-use std::mem::replace;
 
 /// Future of a service of `ApplyConfigServiceFactory`: the factory's service is made, then it is ready, then the
 /// closure's future gives the service.
@@ -81,35 +80,23 @@ where
             self.old self.new cx.old cx.new result }
         ensures waited { OnPending result (ConfigWaited self.old.state self.new.state) }
     {
-        match replace(&mut self.state, ConfigStage::Done) {
+        match &mut self.state {
             ConfigStage::First {
-                mut making,
-                cfg,
-                parts,
+                making,
+                cfg: _,
+                parts: _,
             } => match making.poll(cx) {
-                Poll::Pending => {
-                    self.state = ConfigStage::First { making, cfg, parts };
-                    Poll::Pending
-                }
+                Poll::Pending => Poll::Pending,
                 Poll::Ready(Err(e)) => Poll::Ready(Err(e)),
                 Poll::Ready(Ok(service)) => {
+                    let (cfg, parts) = self.state.take_first();
                     let mut future = Watched::new((parts.1)(cfg, &service));
-                    match future.poll(cx) {
-                        Poll::Pending => {
-                            self.state = ConfigStage::Second { future };
-                            Poll::Pending
-                        }
-                        Poll::Ready(made) => Poll::Ready(made),
-                    }
+                    let polled = future.poll(cx);
+                    self.state.go_on(future);
+                    polled
                 }
             },
-            ConfigStage::Second { mut future } => match future.poll(cx) {
-                Poll::Pending => {
-                    self.state = ConfigStage::Second { future };
-                    Poll::Pending
-                }
-                Poll::Ready(made) => Poll::Ready(made),
-            },
+            ConfigStage::Second { future } => future.poll(cx),
             ConfigStage::Refused => Poll::Ready(Err(NoMemory::no_memory())),
             ConfigStage::Done => unreachable!(),
         }

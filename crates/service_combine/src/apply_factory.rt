@@ -5,6 +5,7 @@ ghost use Rattle.service_combine.specs.Applying.{Answers, TakesLent};
 ghost use Rattle.service_combine.specs.Same.{MakesSame};
 ghost use Rattle.service_combine.specs.Shown.{apply_factory_closure, apply_factory_part};
 
+use crate::copies::copies;
 use crate::making::Making;
 use crate::{Apply, ApplyServiceFactoryResponse};
 use futures::Future;
@@ -51,8 +52,7 @@ impl<SF: Clone, F: Drop, Req, In, Res, Err> Clone for ApplyFactory<SF, F, Req, I
         × (apply_factory_closure copy ≡ apply_factory_closure a) };
 
     fn clone(&self) -> Result<ApplyFactory<SF, F, Req, In, Res, Err>, AllocError> {
-        let factory = self.factory.clone()?;
-        let wrap_fn = Arc::try_clone(&self.wrap_fn)?;
+        let (factory, wrap_fn) = copies(&self.factory, &self.wrap_fn)?;
         Ok(ApplyFactory {
             factory,
             wrap_fn,
@@ -78,8 +78,7 @@ where
         ensures meaning { IfOk result (λ copy. MakesSame SF.ServiceFactory (apply_factory_part self.now) (apply_factory_part copy)
             → MakesSame ⟦<ApplyFactory<SF, F, Req, In, Res, Err> as ServiceFactory<Req>>⟧ self.now copy) }
     {
-        let copy = Clone::clone(self)?;
-        Ok(copy)
+        Clone::clone(self)
     }
 }
 

@@ -4,6 +4,7 @@ ghost use Rattle.service_combine.specs.Applying.{Answers, TakesLent};
 ghost use Rattle.service_combine.specs.Same.{MeansSame, TakesSame};
 ghost use Rattle.service_combine.specs.Shown.{apply_closure, apply_part};
 
+use crate::copies::copies;
 use futures::Future;
 use futures::task::{Context, Poll};
 use service_core::{IntoService, Service};
@@ -48,8 +49,7 @@ impl<S: Clone, F: Drop, Req, In, Res, Err> Clone for Apply<S, F, Req, In, Res, E
     ghost is_clone = { λ a copy. S.is_clone (apply_part a) (apply_part copy) × (apply_closure copy ≡ apply_closure a) };
 
     fn clone(&self) -> Result<Apply<S, F, Req, In, Res, Err>, AllocError> {
-        let service = self.service.clone()?;
-        let wrap_fn = Arc::try_clone(&self.wrap_fn)?;
+        let (service, wrap_fn) = copies(&self.service, &self.wrap_fn)?;
         Ok(Apply {
             service,
             wrap_fn,
@@ -72,8 +72,7 @@ where
             → TakesSame (F.pre (apply_closure self.now)) (F.post (apply_closure self.now)) (apply_part self.now) (apply_part copy)
             → MeansSame ⟦<Apply<S, F, Req, In, Res, Err> as Service<Req>>⟧ self.now copy) }
     {
-        let copy = Clone::clone(self)?;
-        Ok(copy)
+        Clone::clone(self)
     }
 }
 

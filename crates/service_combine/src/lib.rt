@@ -14,6 +14,7 @@ mod apply_service_factory_response;
 mod both;
 mod both_ready;
 mod config_stage;
+mod copies;
 mod fn_service_config;
 mod fn_service_no_config;
 mod half;

@@ -2,14 +2,13 @@ ghost use Rattle.std.specs.Prelude.{◌≡◌, Ok};
 ghost use Rattle.futures.specs.Poll.{OnPending};
 ghost use Rattle.futures.specs.declared.task.Poll.TheVariants.{Ready as PollReady};
 ghost use Rattle.service_core.specs.Polls.{Polls};
-ghost use Rattle.service_combine.specs.Staging.{AwaitsReady, ReadyOr, ReadyWaited};
+ghost use Rattle.service_combine.specs.Staging.{AwaitsReady, ReadyOr, ReadyWaited, Turns};
 ghost use Rattle.service_combine.specs.declared.made_ready.MadeReady.TheVariants.{Making, Readying, Done};
 
 use crate::when_ready::WhenReady;
 use futures::Future;
 use futures::task::{Context, Poll};
 use service_core::{Service, Watched};
-use std::mem::replace;
 
 /// A service that is made, and then given once it is ready. An error of its readiness is turned by `From`.
 #[derive(Drop)]
@@ -61,34 +60,33 @@ where
         ensures polls { Polls ⟦<MadeReady<X, S, Req> as Future>⟧ self.old self.new cx.old cx.new result }
         ensures waited { OnPending result (ReadyWaited self.old self.new) }
     {
-        match replace(self, MadeReady::Done) {
-            MadeReady::Making { mut future } => match future.poll(cx) {
-                Poll::Pending => {
-                    *self = MadeReady::Making { future };
-                    Poll::Pending
+        match self {
+            MadeReady::Making { future } => match future.poll(cx) {
+                Poll::Pending => Poll::Pending,
+                Poll::Ready(Err(e)) => {
+                    *self = MadeReady::Done;
+                    Poll::Ready(Err(e))
                 }
-                Poll::Ready(Err(e)) => Poll::Ready(Err(e)),
                 Poll::Ready(Ok(service)) => {
                     let mut ready = Watched::new(WhenReady::of(service));
-                    match ready.poll(cx) {
-                        Poll::Pending => {
-                            *self = MadeReady::Readying { ready };
-                            Poll::Pending
-                        }
-                        Poll::Ready(Err(e)) => Poll::Ready(Err(From::from(e))),
-                        Poll::Ready(Ok(service)) => Poll::Ready(Ok(service)),
-                    }
-                }
-            },
-            MadeReady::Readying { mut ready } => match ready.poll(cx) {
-                Poll::Pending => {
+                    let polled = ready.poll(cx);
                     *self = MadeReady::Readying { ready };
-                    Poll::Pending
+                    turned(polled)
                 }
-                Poll::Ready(Err(e)) => Poll::Ready(Err(From::from(e))),
-                Poll::Ready(Ok(service)) => Poll::Ready(Ok(service)),
             },
+            MadeReady::Readying { ready } => turned(ready.poll(cx)),
             MadeReady::Done => unreachable!(),
         }
+    }
+}
+
+// The answer, with an error turned by `From`.
+fn turned<S, E, I: From<E>>(polled: Poll<Result<S, E>>) -> Poll<Result<S, I>>
+    ensures { Turns I.From.from_gives polled result }
+{
+    match polled {
+        Poll::Pending => Poll::Pending,
+        Poll::Ready(Ok(service)) => Poll::Ready(Ok(service)),
+        Poll::Ready(Err(e)) => Poll::Ready(Err(From::from(e))),
     }
 }

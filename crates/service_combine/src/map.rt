@@ -5,6 +5,7 @@ ghost use Rattle.service_combine.specs.Same.{MeansSame};
 ghost use Rattle.service_combine.specs.Shown.{map_closure, map_part};
 
 use crate::MapFuture;
+use crate::copies::copies;
 use crate::one_stage::OneStage;
 use futures::Future;
 use futures::task::{Context, Poll};
@@ -42,8 +43,7 @@ impl<A: Clone, F: Drop, Req, Res> Clone for Map<A, F, Req, Res> {
     ghost is_clone = { λ m copy. A.is_clone (map_part m) (map_part copy) × (map_closure copy ≡ map_closure m) };
 
     fn clone(&self) -> Result<Map<A, F, Req, Res>, AllocError> {
-        let service = self.service.clone()?;
-        let f = Arc::try_clone(&self.f)?;
+        let (service, f) = copies(&self.service, &self.f)?;
         Ok(Map {
             service,
             f,
@@ -65,8 +65,7 @@ where
         ensures meaning { IfOk result (λ copy. MeansSame A.Service (map_part self.now) (map_part copy)
             → MeansSame ⟦<Map<A, F, Req, Res> as Service<Req>>⟧ self.now copy) }
     {
-        let copy = Clone::clone(self)?;
-        Ok(copy)
+        Clone::clone(self)
     }
 }
 

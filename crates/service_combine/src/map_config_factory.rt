@@ -3,6 +3,7 @@ ghost use Rattle.service_core.specs.Meaning.{Follows, Through};
 ghost use Rattle.service_combine.specs.Same.{MakesSame};
 ghost use Rattle.service_combine.specs.Shown.{map_config_closure, map_config_part};
 
+use crate::copies::copies;
 use service_core::{IntoServiceFactory, ServiceFactory};
 use std::alloc::{AllocError, Global};
 use std::marker::PhantomData;
@@ -44,8 +45,7 @@ impl<SF: Clone, Req, F: Drop, Cfg> Clone for MapConfig<SF, Req, F, Cfg> {
         × (map_config_closure copy ≡ map_config_closure m) };
 
     fn clone(&self) -> Result<MapConfig<SF, Req, F, Cfg>, AllocError> {
-        let factory = self.factory.clone()?;
-        let cfg_mapper = Arc::try_clone(&self.cfg_mapper)?;
+        let (factory, cfg_mapper) = copies(&self.factory, &self.cfg_mapper)?;
         Ok(MapConfig {
             factory,
             cfg_mapper,
@@ -66,8 +66,7 @@ where
         ensures meaning { IfOk result (λ copy. MakesSame SF.ServiceFactory (map_config_part self.now) (map_config_part copy)
             → MakesSame ⟦<MapConfig<SF, Req, F, Cfg> as ServiceFactory<Req>>⟧ self.now copy) }
     {
-        let copy = Clone::clone(self)?;
-        Ok(copy)
+        Clone::clone(self)
     }
 }
 

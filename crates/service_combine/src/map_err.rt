@@ -6,6 +6,7 @@ ghost use Rattle.service_combine.specs.Same.{MeansSame};
 ghost use Rattle.service_combine.specs.Shown.{map_err_closure, map_err_part};
 
 use crate::MapErrFuture;
+use crate::copies::copies;
 use crate::one_stage::OneStage;
 use futures::Future;
 use futures::task::{Context, Poll};
@@ -44,8 +45,7 @@ impl<A: Clone, Req, F: Drop, E> Clone for MapErr<A, Req, F, E> {
     ghost is_clone = { λ m copy. A.is_clone (map_err_part m) (map_err_part copy) × (map_err_closure copy ≡ map_err_closure m) };
 
     fn clone(&self) -> Result<MapErr<A, Req, F, E>, AllocError> {
-        let service = self.service.clone()?;
-        let f = Arc::try_clone(&self.f)?;
+        let (service, f) = copies(&self.service, &self.f)?;
         Ok(MapErr {
             service,
             f,
@@ -68,8 +68,7 @@ where
         ensures meaning { IfOk result (λ copy. MeansSame A.Service (map_err_part self.now) (map_err_part copy)
             → MeansSame ⟦<MapErr<A, Req, F, E> as Service<Req>>⟧ self.now copy) }
     {
-        let copy = Clone::clone(self)?;
-        Ok(copy)
+        Clone::clone(self)
     }
 }
 

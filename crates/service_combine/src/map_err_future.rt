@@ -68,20 +68,10 @@ where
         match &mut self.state {
             OneStage::Waiting { future, f } => match future.poll(cx) {
                 Poll::Pending => Poll::Pending,
-                Poll::Ready(Ok(value)) => {
-                    self.state = OneStage::Done;
-                    Poll::Ready(Ok(value))
-                }
-                Poll::Ready(Err(e)) => {
-                    let changed = f(e);
-                    self.state = OneStage::Done;
-                    Poll::Ready(Err(changed))
-                }
+                Poll::Ready(Ok(value)) => Poll::Ready(Ok(value)),
+                Poll::Ready(Err(e)) => Poll::Ready(Err(f(e))),
             },
-            OneStage::Refused => {
-                self.state = OneStage::Done;
-                Poll::Ready(Err(E::no_memory()))
-            }
+            OneStage::Refused => Poll::Ready(Err(E::no_memory())),
             OneStage::Done => unreachable!(),
         }
     }

@@ -5,6 +5,7 @@ ghost use Rattle.service_combine.specs.Readying.{ReadyErrBy};
 ghost use Rattle.service_combine.specs.Same.{MakesSame};
 ghost use Rattle.service_combine.specs.Shown.{map_err_factory, map_err_factory_closure};
 
+use crate::copies::copies;
 use crate::making::Making;
 use crate::{MapErr, MapErrFuture, MapErrServiceFuture};
 use futures::Future;
@@ -48,8 +49,7 @@ impl<A: Clone, Req, F: Drop, E> Clone for MapErrServiceFactory<A, Req, F, E> {
         × (map_err_factory_closure copy ≡ map_err_factory_closure m) };
 
     fn clone(&self) -> Result<MapErrServiceFactory<A, Req, F, E>, AllocError> {
-        let factory = self.factory.clone()?;
-        let f = Arc::try_clone(&self.f)?;
+        let (factory, f) = copies(&self.factory, &self.f)?;
         Ok(MapErrServiceFactory {
             factory,
             f,
@@ -72,8 +72,7 @@ where
         ensures meaning { IfOk result (λ copy. MakesSame A.ServiceFactory (map_err_factory self.now) (map_err_factory copy)
             → MakesSame ⟦<MapErrServiceFactory<A, Req, F, E> as ServiceFactory<Req>>⟧ self.now copy) }
     {
-        let copy = Clone::clone(self)?;
-        Ok(copy)
+        Clone::clone(self)
     }
 }
 

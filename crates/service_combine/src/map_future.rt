@@ -62,20 +62,10 @@ where
         match &mut self.state {
             OneStage::Waiting { future, f } => match future.poll(cx) {
                 Poll::Pending => Poll::Pending,
-                Poll::Ready(Err(e)) => {
-                    self.state = OneStage::Done;
-                    Poll::Ready(Err(e))
-                }
-                Poll::Ready(Ok(value)) => {
-                    let changed = f(value);
-                    self.state = OneStage::Done;
-                    Poll::Ready(Ok(changed))
-                }
+                Poll::Ready(Err(e)) => Poll::Ready(Err(e)),
+                Poll::Ready(Ok(value)) => Poll::Ready(Ok(f(value))),
             },
-            OneStage::Refused => {
-                self.state = OneStage::Done;
-                Poll::Ready(Err(E::no_memory()))
-            }
+            OneStage::Refused => Poll::Ready(Err(E::no_memory())),
             OneStage::Done => unreachable!(),
         }
     }

@@ -3,6 +3,7 @@ ghost use Rattle.service_core.specs.Meaning.{Follows};
 ghost use Rattle.service_combine.specs.Same.{MakesSame};
 ghost use Rattle.service_combine.specs.Shown.{map_init_err_closure, map_init_err_factory};
 
+use crate::copies::copies;
 use crate::one_stage::OneStage;
 use crate::{MapErrFuture, MapInitErrFuture};
 use service_core::{NoMemory, ServiceFactory, Watched};
@@ -45,8 +46,7 @@ impl<A: Clone, F: Drop, Req, E> Clone for MapInitErr<A, F, Req, E> {
         × (map_init_err_closure copy ≡ map_init_err_closure m) };
 
     fn clone(&self) -> Result<MapInitErr<A, F, Req, E>, AllocError> {
-        let factory = self.factory.clone()?;
-        let f = Arc::try_clone(&self.f)?;
+        let (factory, f) = copies(&self.factory, &self.f)?;
         Ok(MapInitErr {
             factory,
             f,
@@ -68,8 +68,7 @@ where
         ensures meaning { IfOk result (λ copy. MakesSame A.ServiceFactory (map_init_err_factory self.now) (map_init_err_factory copy)
             → MakesSame ⟦<MapInitErr<A, F, Req, E> as ServiceFactory<Req>>⟧ self.now copy) }
     {
-        let copy = Clone::clone(self)?;
-        Ok(copy)
+        Clone::clone(self)
     }
 }
 

@@ -4,6 +4,7 @@ ghost use Rattle.service_combine.specs.Equations.{MapMakes};
 ghost use Rattle.service_combine.specs.Same.{MakesSame};
 ghost use Rattle.service_combine.specs.Shown.{map_factory, map_factory_closure};
 
+use crate::copies::copies;
 use crate::making::Making;
 use crate::{Map, MapFuture, MapServiceFuture};
 use futures::Future;
@@ -46,8 +47,7 @@ impl<A: Clone, F: Drop, Req, Res> Clone for MapServiceFactory<A, F, Req, Res> {
     ghost is_clone = { λ m copy. A.is_clone (map_factory m) (map_factory copy) × (map_factory_closure copy ≡ map_factory_closure m) };
 
     fn clone(&self) -> Result<MapServiceFactory<A, F, Req, Res>, AllocError> {
-        let factory = self.factory.clone()?;
-        let f = Arc::try_clone(&self.f)?;
+        let (factory, f) = copies(&self.factory, &self.f)?;
         Ok(MapServiceFactory {
             factory,
             f,
@@ -70,8 +70,7 @@ where
         ensures meaning { IfOk result (λ copy. MakesSame A.ServiceFactory (map_factory self.now) (map_factory copy)
             → MakesSame ⟦<MapServiceFactory<A, F, Req, Res> as ServiceFactory<Req>>⟧ self.now copy) }
     {
-        let copy = Clone::clone(self)?;
-        Ok(copy)
+        Clone::clone(self)
     }
 }
 

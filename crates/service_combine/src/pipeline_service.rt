@@ -131,8 +131,7 @@ where
         ensures meaning { IfOk result (λ copy. MeansSame S.Service (pipeline_part self.now) (pipeline_part copy)
             → MeansSame ⟦<Pipeline<S, Req> as Service<Req>>⟧ self.now copy) }
     {
-        let copy = Clone::clone(self)?;
-        Ok(copy)
+        Clone::clone(self)
     }
 }
 

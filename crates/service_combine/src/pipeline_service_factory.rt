@@ -169,8 +169,7 @@ where
         ensures meaning { IfOk result (λ copy. MakesSame SF.ServiceFactory (pipeline_factory_part self.now) (pipeline_factory_part copy)
             → MakesSame ⟦<PipelineFactory<SF, Req> as ServiceFactory<Req>>⟧ self.now copy) }
     {
-        let copy = Clone::clone(self)?;
-        Ok(copy)
+        Clone::clone(self)
     }
 }
 

@@ -74,29 +74,13 @@ where
                 Poll::Pending => Poll::Pending,
                 Poll::Ready(result) => {
                     let mut second = Watched::new(parts.1.call(result));
-                    match second.poll(cx) {
-                        Poll::Pending => {
-                            self.state = TwoStages::Second { future: second };
-                            Poll::Pending
-                        }
-                        Poll::Ready(output) => {
-                            self.state = TwoStages::Done;
-                            Poll::Ready(output)
-                        }
-                    }
+                    let polled = second.poll(cx);
+                    self.state = TwoStages::Second { future: second };
+                    polled
                 }
             },
-            TwoStages::Second { future } => match future.poll(cx) {
-                Poll::Pending => Poll::Pending,
-                Poll::Ready(output) => {
-                    self.state = TwoStages::Done;
-                    Poll::Ready(output)
-                }
-            },
-            TwoStages::Refused => {
-                self.state = TwoStages::Done;
-                Poll::Ready(Err(NoMemory::no_memory()))
-            }
+            TwoStages::Second { future } => future.poll(cx),
+            TwoStages::Refused => Poll::Ready(Err(NoMemory::no_memory())),
             TwoStages::Done => unreachable!(),
         }
     }

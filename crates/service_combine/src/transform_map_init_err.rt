@@ -3,6 +3,7 @@ ghost use Rattle.service_core.specs.Meaning.{Follows};
 ghost use Rattle.service_combine.specs.Same.{WrapsSame};
 ghost use Rattle.service_combine.specs.Shown.{map_init_err_transform, map_init_err_transform_closure};
 
+use crate::copies::copies;
 use crate::one_stage::OneStage;
 use crate::{MapErrFuture, TransformMapInitErrFuture};
 use service_core::{NoMemory, Transform, Watched};
@@ -45,8 +46,7 @@ impl<T: Clone, S, Req, F: Drop, E> Clone for TransformMapInitErr<T, S, Req, F, E
         × (map_init_err_transform_closure copy ≡ map_init_err_transform_closure m) };
 
     fn clone(&self) -> Result<TransformMapInitErr<T, S, Req, F, E>, AllocError> {
-        let transform = self.transform.clone()?;
-        let f = Arc::try_clone(&self.f)?;
+        let (transform, f) = copies(&self.transform, &self.f)?;
         Ok(TransformMapInitErr {
             transform,
             f,
@@ -69,8 +69,7 @@ where
         ensures meaning { IfOk result (λ copy. WrapsSame ⟦<T as Transform<S, Req>>⟧ (map_init_err_transform self.now) (map_init_err_transform copy)
             → WrapsSame ⟦<TransformMapInitErr<T, S, Req, F, E> as Transform<S, Req>>⟧ self.now copy) }
     {
-        let copy = Clone::clone(self)?;
-        Ok(copy)
+        Clone::clone(self)
     }
 }
 

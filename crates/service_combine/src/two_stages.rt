@@ -7,5 +7,6 @@ pub(crate) enum TwoStages<X, Y, P> {
     First { future: Watched<X>, parts: Arc<P> },
     Second { future: Watched<Y> },
     Refused,
+    /// The first part erred.
     Done,
 }

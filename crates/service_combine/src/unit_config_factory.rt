@@ -49,8 +49,7 @@ where
         ensures meaning { IfOk result (λ copy. MakesSame SF.ServiceFactory (unit_config_part self.now) (unit_config_part copy)
             → MakesSame ⟦<UnitConfig<SF, Cfg, Req> as ServiceFactory<Req>>⟧ self.now copy) }
     {
-        let copy = Clone::clone(self)?;
-        Ok(copy)
+        Clone::clone(self)
     }
 }
 

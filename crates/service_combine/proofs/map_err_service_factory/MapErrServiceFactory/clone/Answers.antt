@@ -1,24 +1,22 @@
 use Rattle.service_combine.proofs.MeaningLemmas.{ReadyErrBy-within}
-use Rattle.service_combine.proofs.SameLemmas.{OrElse-within, Through-comes}
+use Rattle.service_combine.proofs.SameLemmas.{IfOk-more, OrElse-within, Through-comes}
 use Rattle.service_combine.proofs.map_err_service_factory.MapErrServiceFactory.clone.Goals as goal
 
 pub returns-clause-meaning : goal.returns-clause-meaning
-returns-clause-meaning g c =
-    let is = c.in_ok-copy.ensures.cases in
-    λ same. record {
-      callable = (λ can. (same.callable.0 can.0, rw is.1 at can.1), λ can. (same.callable.1 can.0, rw is.1 can.1));
-      answers = λ cfg q. (
-        λ r may. OrElse-within (Through-comes (same.answers cfg q).0) (rw is.1 at may),
-        λ r may. rw is.1 (OrElse-within (Through-comes (same.answers cfg q).1) may),
-      );
-      readiness = λ cfg. (
-        λ a ready. ReadyErrBy-within _ _ _ (same.readiness cfg).0 a (rw is.1 at ready),
-        λ a ready. rw is.1 (ReadyErrBy-within _ _ _ (same.readiness cfg).1 a ready),
-      );
-      futures = λ cfg q. (
-        λ f begun. (begun.0, λ r may. OrElse-within (Through-comes (same.answers cfg q).0) (rw is.1 at (begun.1 r may))),
-        λ f begun. (begun.0, λ r may. rw is.1 (OrElse-within (Through-comes (same.answers cfg q).1) (begun.1 r may))),
-      );
-      errors = λ cfg. (λ e. OrElse-within ((same.errors cfg).0 e), λ e. OrElse-within ((same.errors cfg).1 e));
-      makes = same.makes;
-    }
+returns-clause-meaning g c = IfOk-more c.clone.result _ _ _ c.clone.ensures.cases (λ copy is same. record {
+  callable = (λ can. (same.callable.0 can.0, rw is.1 at can.1), λ can. (same.callable.1 can.0, rw is.1 can.1));
+  answers = λ cfg q. (
+    λ r may. OrElse-within (Through-comes (same.answers cfg q).0) (rw is.1 at may),
+    λ r may. rw is.1 (OrElse-within (Through-comes (same.answers cfg q).1) may),
+  );
+  readiness = λ cfg. (
+    λ a ready. ReadyErrBy-within _ _ _ (same.readiness cfg).0 a (rw is.1 at ready),
+    λ a ready. rw is.1 (ReadyErrBy-within _ _ _ (same.readiness cfg).1 a ready),
+  );
+  futures = λ cfg q. (
+    λ f begun. (begun.0, λ r may. OrElse-within (Through-comes (same.answers cfg q).0) (rw is.1 at (begun.1 r may))),
+    λ f begun. (begun.0, λ r may. rw is.1 (OrElse-within (Through-comes (same.answers cfg q).1) (begun.1 r may))),
+  );
+  errors = λ cfg. (λ e. OrElse-within ((same.errors cfg).0 e), λ e. OrElse-within ((same.errors cfg).1 e));
+  makes = same.makes;
+})

@@ -1,5 +1,6 @@
 use Rattle.std.proofs.Common.{rules}
 use Rattle.service_combine.proofs.MeaningLemmas.{Follows-within}
+use Rattle.service_combine.proofs.PollLemmas.{IfReady-more, OnPending-more}
 use Rattle.service_combine.proofs.then_response.ThenServiceResponseFuture.poll.Goals as goal
 
 pub returns-in-Pending-clause-polls : goal.returns-in-Pending-clause-polls
@@ -11,32 +12,22 @@ returns-in-Pending-clause-polls g c = record {
   kept = search rules;
 }
 
-pub returns-in-Pending-poll-clause-polls : goal.returns-in-Pending-poll-clause-polls
-returns-in-Pending-poll-clause-polls g c =
+pub returns-in-Ready-clause-polls : goal.returns-in-Ready-clause-polls
+returns-in-Ready-clause-polls g c =
     let second = g.met.B.Service.begun_gives _ _ _ (rw c.deref.ensures at c.call.ensures) in
+    let polled = c.poll-polled.ensures in
     record {
-      value = search rules;
-      again = search rules;
-      same = rw c.in-First.is (λ x given. record {
+      value = rw c.in-First.is (IfReady-more c.poll-polled.result _ _ (rw c.new-second.ensures.future at polled.value) (λ x given. record {
         value = c.in-Ready.result;
         comes = search rules;
-        holds = second.1 x (rw c.new-second.ensures.future at (c.in-Pending-poll.ensures.same x given));
-      });
-      registered = search rules;
-      kept = search rules;
-    }
-
-pub returns-in-Ready-poll-clause-polls : goal.returns-in-Ready-poll-clause-polls
-returns-in-Ready-poll-clause-polls g c =
-    let second = g.met.B.Service.begun_gives _ _ _ (rw c.deref.ensures at c.call.ensures) in
-    record {
-      value = rw c.in-First.is (record {
+        holds = second.1 x given;
+      }));
+      again = polled.again;
+      same = OnPending-more c.poll-polled.result _ _ polled.same (λ same. rw c.in-First.is (λ x given. record {
         value = c.in-Ready.result;
         comes = search rules;
-        holds = second.1 _ (rw c.new-second.ensures.future at c.in-Ready-poll.ensures.value);
-      });
-      again = search rules;
-      same = search rules;
-      registered = search rules;
+        holds = second.1 x (rw c.new-second.ensures.future at (same x given));
+      }));
+      registered = polled.registered;
       kept = search rules;
     }
