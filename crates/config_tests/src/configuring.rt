@@ -5,197 +5,180 @@ ghost use Rattle.service_combine.specs.Configuring.{GivesCallable};
 ghost use Rattle.service_combine.specs.Staging.{MakesFrom};
 ghost use denote.Ref.{Bor};
 
-use crate::asking::{Bench, Order, both_show};
+use crate::asking::{Order, both_show};
 use crate::making::Asked;
-use crate::words::Again;
+use crate::naming::half;
+use crate::words::{Again, Denial, Fault};
 use futures::Future;
 use service_combine::{
     ApplyConfigService, ApplyConfigServiceFactory, ApplyFactory, FnServiceConfig,
     FnServiceNoConfig, MapConfig, UnitConfig, apply_cfg, apply_cfg_factory, apply_fn_factory,
     fn_factory, fn_factory_with_config, map_config, unit_config,
 };
-use service_core::{NoMemory, Service, ServiceFactory};
-use std::alloc::AllocError;
+use service_core::{Service, ServiceFactory};
+use std::alloc::{AllocError, AllocGlobal};
 
 /// Whether a factory of a closure that takes the configuration shows what it has to.
-pub(crate) fn configured<F, Fut, C, S, Req, I>(
-    bench: &Bench,
+pub(crate) fn configured<F, Fut, C, S>(
+    rt: &HostRuntime,
     f: F,
     order: &Order<C>,
-    asked: &Asked<Req, S::Response, S::Error, I>,
+    asked: &Asked<(), S::Response, Fault, Denial>,
 ) -> Result<bool, AllocError>
 where
     C: Again,
-    Req: Copy + Drop,
-    I: NoMemory + PartialEq,
-    S: Service<Req, Response: PartialEq + Drop, Error: NoMemory + PartialEq> + Drop,
+    S: Service<(), Response: PartialEq + Drop, Error = Fault> + Drop,
     F: Fn(C) -> Fut + Drop,
-    Fut: Future<Output = Result<S, I>>,
+    Fut: Future<Output = Result<S, Denial>>,
     requires f { F.IsAlwaysCallable f }
     requires gives { (c : C) → GivesCallable Fut.Future S.can_call (F.post f c) }
 {
-    let factory: FnServiceConfig<F, Fut, C, S, Req, I> = fn_factory_with_config(bench.alloc, f)?;
-    let copy = factory.clone()?;
-    both_show(bench, factory, copy, order, asked)
+    let factory: FnServiceConfig<F, Fut, C, S, (), Denial> = fn_factory_with_config(rt.alloc(), f)?;
+    let copy: Result<_, _> = factory.clone();
+    both_show(rt, factory, copy, order, asked)
 }
 
 /// Whether a factory of a closure that takes nothing shows what it has to.
-pub(crate) fn unconfigured<F, Fut, C, S, Req, I>(
-    bench: &Bench,
+pub(crate) fn unconfigured<F, Fut, S>(
+    rt: &HostRuntime,
     f: F,
-    order: &Order<C>,
-    asked: &Asked<Req, S::Response, S::Error, I>,
+    order: &Order<u32>,
+    asked: &Asked<(), S::Response, Fault, Denial>,
 ) -> Result<bool, AllocError>
 where
-    C: Again,
-    Req: Copy + Drop,
-    I: NoMemory + PartialEq,
-    S: Service<Req, Response: PartialEq + Drop, Error: NoMemory + PartialEq> + Drop,
+    S: Service<(), Response: PartialEq + Drop, Error = Fault> + Drop,
     F: Fn() -> Fut + Drop,
-    Fut: Future<Output = Result<S, I>>,
+    Fut: Future<Output = Result<S, Denial>>,
     requires f { F.IsAlwaysCallable f }
     requires gives { GivesCallable Fut.Future S.can_call (F.post f) }
 {
-    let factory: FnServiceNoConfig<F, C, S, Req, Fut, I> = fn_factory(bench.alloc, f)?;
-    let copy = factory.clone()?;
-    both_show(bench, factory, copy, order, asked)
+    let factory: FnServiceNoConfig<F, u32, S, (), Fut, Denial> = fn_factory(rt.alloc(), f)?;
+    let copy: Result<_, _> = factory.clone();
+    both_show(rt, factory, copy, order, asked)
 }
 
 /// Whether a factory whose services are lent to a closure shows what it has to.
-pub(crate) fn applied<A, F, Fut, Req, In, Res, E>(
-    bench: &Bench,
+pub(crate) fn applied<A, F, Fut, Req, In, Res>(
+    rt: &HostRuntime,
     factory: A,
     f: F,
-    order: &Order<A::Config>,
-    asked: &Asked<Req, Res, E, A::InitError>,
+    order: &Order<u32>,
+    asked: &Asked<Req, Res, Fault, Denial>,
 ) -> Result<bool, AllocError>
 where
     Req: Copy + Drop,
     In: Drop,
     Res: PartialEq + Drop,
-    E: NoMemory + PartialEq,
-    A: ServiceFactory<In, Config: Again, Error = E, Service: Drop, InitError: NoMemory + PartialEq>
+    A: ServiceFactory<In, Config = u32, Error = Fault, Service: Drop, InitError = Denial>
         + Clone
         + Drop,
     F: Fn(Req, &A::Service) -> Fut + Drop,
-    Fut: Future<Output = Result<Res, E>>,
+    Fut: Future<Output = Result<Res, Fault>>,
     requires factory { (made : _) → A.can_make made }
     requires f { (g : F) (s : A.Service) → A.Service.can_call s → TakesLent Fut.Future (F.pre g) (F.post g) s }
 {
-    let applied: ApplyFactory<A, F, Req, In, Res, E> = apply_fn_factory(bench.alloc, factory, f)?;
+    let applied: ApplyFactory<A, F, Req, In, Res, Fault> = apply_fn_factory(
+        rt.alloc(),
+        factory,
+        f,
+    )?;
     let copy = applied.clone()?;
-    both_show(bench, applied, copy, order, asked)
+    both_show(rt, applied, Ok(copy), order, asked)
 }
 
 /// Whether a factory of a closure to which a service is lent shows what it has to.
-pub(crate) fn lent<T, F, Fut, C, S, Req, I>(
-    bench: &Bench,
-    parts: (T, F),
+pub(crate) fn lent<T, F, Fut, C, S>(
+    rt: &HostRuntime,
+    service: T,
+    f: F,
     order: &Order<C>,
-    asked: &Asked<Req, S::Response, S::Error, I>,
+    asked: &Asked<u32, u32, Fault, Denial>,
 ) -> Result<bool, AllocError>
 where
     C: Again,
-    Req: Copy + Drop,
-    I: NoMemory + PartialEq,
-    T: Service<Req> + Drop,
-    S: Service<Req, Response: PartialEq + Drop, Error: NoMemory + PartialEq> + Drop,
+    T: Service<u32> + Drop,
+    S: Service<u32, Response = u32, Error = Fault> + Drop,
     F: Fn(C, &T) -> Fut + Drop,
-    Fut: Future<Output = Result<S, I>>,
-    requires f { (c : C) (lent : Bor T) → lent.now ≡ parts.0 → F.pre parts.1 c lent }
-    requires gives { (c : C) → GivesCallable Fut.Future S.can_call (Answers (F.post parts.1) parts.0 c) }
+    Fut: Future<Output = Result<S, Denial>>,
+    requires f { (c : C) (lent : Bor T) → lent.now ≡ service → F.pre f c lent }
+    requires gives { (c : C) → GivesCallable Fut.Future S.can_call (Answers (F.post f) service c) }
 {
-    let (service, f) = parts;
-    let lent: ApplyConfigService<T, Req, F, C, Fut, S, I> = apply_cfg(bench.alloc, service, f)?;
-    let copy = lent.clone()?;
-    both_show(bench, lent, copy, order, asked)
+    let lent: ApplyConfigService<T, u32, F, C, Fut, S, Denial> = apply_cfg(rt.alloc(), service, f)?;
+    let copy: Result<_, _> = lent.clone();
+    both_show(rt, lent, copy, order, asked)
 }
 
 /// Whether a factory of a closure to which a ready service is lent shows what it has to.
-pub(crate) fn awaited<A, F, Fut, C, S, Req>(
-    bench: &Bench,
+pub(crate) fn awaited<A, F, Fut, S>(
+    rt: &HostRuntime,
     factory: A,
     f: F,
-    order: &Order<C>,
-    asked: &Asked<Req, S::Response, S::Error, A::InitError>,
+    order: &Order<u32>,
+    asked: &Asked<u32, u32, Fault, Denial>,
 ) -> Result<bool, AllocError>
 where
-    C: Again,
-    Req: Copy + Drop,
-    A: ServiceFactory<
-        Req,
-        Config = (),
-        Service: Drop,
-        InitError: From<A::Error> + NoMemory + PartialEq,
-    >
-        + Drop,
-    S: Service<Req, Response: PartialEq + Drop, Error: NoMemory + PartialEq> + Drop,
-    F: Fn(C, &A::Service) -> Fut + Drop,
-    Fut: Future<Output = Result<S, A::InitError>>,
+    A: ServiceFactory<u32, Config = (), Error = Fault, Service: Drop, InitError = Denial> + Drop,
+    S: Service<u32, Response = u32, Error = Fault> + Drop,
+    F: Fn(u32, &A::Service) -> Fut + Drop,
+    Fut: Future<Output = Result<S, Denial>>,
     requires factory { (made : _) → A.can_make made }
-    requires f { (g : F) (c : C) (s : A.Service) → A.Service.can_call s → MakesFrom Fut.Future (F.pre g) (F.post g) S.can_call c s }
+    requires f { (g : F) (c : _) (s : A.Service) → A.Service.can_call s → MakesFrom Fut.Future (F.pre g) (F.post g) S.can_call c s }
 {
-    let awaited: ApplyConfigServiceFactory<A, Req, F, C, Fut, S> = apply_cfg_factory(
-        bench.alloc,
+    let awaited: ApplyConfigServiceFactory<A, u32, F, u32, Fut, S> = apply_cfg_factory(
+        rt.alloc(),
         factory,
         f,
     )?;
     let copy = awaited.clone()?;
-    both_show(bench, awaited, copy, order, asked)
+    both_show(rt, awaited, Ok(copy), order, asked)
 }
 
-/// Whether a factory whose configuration is changed shows what it has to.
-pub(crate) fn converted<A, F, C, Req>(
-    bench: &Bench,
-    parts: (A, F),
-    order: &Order<C>,
-    asked: &Asked<Req, A::Response, A::Error, A::InitError>,
+/// Whether a factory whose configuration is halved shows what it has to.
+pub(crate) fn converted<A>(
+    rt: &HostRuntime,
+    factory: A,
+    order: &Order<u32>,
+    asked: &Asked<(), u32, Fault, Denial>,
 ) -> Result<bool, AllocError>
 where
-    C: Again,
-    Req: Copy + Drop,
     A: ServiceFactory<
-        Req,
-        Response: PartialEq + Drop,
-        Error: NoMemory + PartialEq,
+        (),
+        Config = u32,
+        Response = u32,
+        Error = Fault,
         Service: Drop,
-        InitError: NoMemory + PartialEq,
+        InitError = Denial,
     >
         + Clone
         + Drop,
-    F: Fn(C) -> A::Config + Drop,
     requires factory { (made : _) → A.can_make made }
-    requires f { F.IsAlwaysCallable parts.1 }
 {
-    let (factory, f) = parts;
-    let converted: MapConfig<A, Req, F, C> = map_config(bench.alloc, factory, f)?;
-    let copy = converted.clone()?;
-    both_show(bench, converted, copy, order, asked)
+    let converted: MapConfig<A, (), _, u32> = map_config(rt.alloc(), factory, half)?;
+    let copy: Result<_, _> = converted.clone();
+    both_show(rt, converted, copy, order, asked)
 }
 
 /// Whether a factory for every configuration shows what it has to.
-pub(crate) fn freed<A, C, Req>(
-    bench: &Bench,
+pub(crate) fn freed<A>(
+    rt: &HostRuntime,
     factory: A,
-    order: &Order<C>,
-    asked: &Asked<Req, A::Response, A::Error, A::InitError>,
+    order: &Order<u32>,
+    asked: &Asked<u32, u32, Fault, Denial>,
 ) -> Result<bool, AllocError>
 where
-    C: Again,
-    Req: Copy + Drop,
     A: ServiceFactory<
-        Req,
+        u32,
         Config = (),
-        Response: PartialEq + Drop,
-        Error: NoMemory + PartialEq,
+        Response = u32,
+        Error = Fault,
         Service: Drop,
-        InitError: NoMemory + PartialEq,
+        InitError = Denial,
     >
         + Clone
         + Drop,
     requires factory { (made : _) → A.can_make made }
 {
-    let freed: UnitConfig<A, C, Req> = unit_config(factory);
-    let copy = freed.clone()?;
-    both_show(bench, freed, copy, order, asked)
+    let freed: UnitConfig<A, u32, u32> = unit_config(factory);
+    let copy: Result<_, _> = freed.clone();
+    both_show(rt, freed, copy, order, asked)
 }

@@ -43,6 +43,14 @@ impl<S: Service<Req> + Drop, Req> Future for Readiness<S, Req> {
     }
 }
 
+/// A task that polls.
+pub(crate) fn task(rt: &HostRuntime) -> Result<MockTask, AllocError> {
+    match MockTask::new(rt) {
+        Ok(task) => Ok(task),
+        Err(_) => Err(AllocError),
+    }
+}
+
 /// That something else came: an error where it is want of memory.
 pub(crate) fn is_other<E: NoMemory + PartialEq>(error: E) -> Result<bool, AllocError> {
     if error == E::no_memory() {
@@ -155,11 +163,7 @@ where
 }
 
 /// Whether this comes at once in place of a service.
-pub(crate) fn denies<M, S, I>(
-    task: &MockTask,
-    mut making: M,
-    wanted: &I,
-) -> Result<bool, AllocError>
+fn denies<M, S, I>(task: &MockTask, mut making: M, wanted: &I) -> Result<bool, AllocError>
 where
     S: Drop,
     I: NoMemory + PartialEq,
@@ -169,6 +173,24 @@ where
     match task.poll(&mut making) {
         Poll::Ready(Err(error)) => is_error(error, wanted),
         _ => Ok(false),
+    }
+}
+
+/// Whether this comes at once in place of a service, with a task made for it.
+pub(crate) fn is_denied<M, S, I>(
+    rt: &HostRuntime,
+    making: M,
+    wanted: &I,
+) -> Result<bool, AllocError>
+where
+    S: Drop,
+    I: NoMemory + PartialEq,
+    M: Future<Output = Result<S, I>>,
+    requires { M.can_poll making }
+{
+    match task(rt) {
+        Ok(task) => denies(&task, making, wanted),
+        Err(_) => Err(AllocError),
     }
 }
 

@@ -3,7 +3,7 @@ ghost use Rattle.std.specs.Prelude.{⊤};
 ghost use Rattle.service_core.specs.Meaning.{GivesOnly};
 
 use crate::makers::Late;
-use crate::making::{Asked, answers, is_other, making_shows};
+use crate::making::{Asked, answers, is_other, making_shows, task};
 use crate::services::Echo;
 use crate::words::{Denial, Fault};
 use futures::Future;
@@ -120,13 +120,13 @@ impl ServiceFactory<u32> for Barren {
 
 /// Whether a transform's service answers 1 so.
 pub(crate) fn wraps<S, T>(
-    task: &MockTask,
+    rt: &HostRuntime,
     transform: T,
     service: S,
     wanted: u32,
 ) -> Result<bool, AllocError>
 where
-    S: Service<u32>,
+    S: Service<u32> + Drop,
     T: Transform<
         S,
         u32,
@@ -138,8 +138,9 @@ where
         + Drop,
     requires { T.can_make transform service }
 {
+    let task = task(rt)?;
     let asked = Asked::Served(1, Ok(wanted));
-    making_shows(task, transform.new_transform(service), &asked)
+    making_shows(&task, transform.new_transform(service), &asked)
 }
 
 /// Whether a factory's making is pending twice, and its service answers 1 so then.

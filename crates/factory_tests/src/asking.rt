@@ -1,31 +1,12 @@
 //! What factories are asked, whatever they make.
+ghost use Rattle.std.specs.Prelude.{IfOk};
 
-use crate::making::{Asked, making_shows};
+use crate::making::{Asked, making_shows, task};
 use crate::words::Again;
-use futures::test::MockTask;
 use service_core::{NoMemory, ServiceFactory};
-use std::alloc::{AllocError, AllocGlobal, Global};
-use std::io;
-use std::random::RandomSource;
+use std::alloc::{AllocError, AllocGlobal};
 use std::rc::Rc;
 use std::sync::Arc;
-
-/// A task that polls, and the allocator of what is built.
-#[derive(Drop)]
-pub(crate) struct Bench {
-    pub(crate) task: MockTask,
-    pub(crate) alloc: Global,
-}
-
-impl Bench {
-    pub(crate) fn new<R: RandomSource + AllocGlobal>(rt: &R) -> io::Result<Bench> {
-        let task = MockTask::new(rt)?;
-        Ok(Bench {
-            task,
-            alloc: rt.alloc(),
-        })
-    }
-}
 
 /// A configuration, and whether the factory is asked for it once or each way: where it is borrowed, where it is a copy,
 /// and where it is shared in two ways.
@@ -51,17 +32,27 @@ pub(crate) fn each_way<C>(cfg: C) -> Order<C> {
     }
 }
 
+/// Whether both hold. Want of memory goes before.
+pub(crate) fn both(
+    first: Result<bool, AllocError>,
+    second: Result<bool, AllocError>,
+) -> Result<bool, AllocError> {
+    let first = first?;
+    Ok(second? && first)
+}
+
 /// Whether a factory shows what it has to.
 pub(crate) fn shows<F, Req>(
-    task: &MockTask,
+    rt: &HostRuntime,
     factory: &F,
-    cfg: F::Config,
+    cfg: &F::Config,
     asked: &Asked<Req, F::Response, F::Error, F::InitError>,
 ) -> Result<bool, AllocError>
 where
     Req: Copy + Drop,
     F: ServiceFactory<
         Req,
+        Config: Again,
         Response: PartialEq + Drop,
         Error: NoMemory + PartialEq,
         Service: Drop,
@@ -69,12 +60,13 @@ where
     >,
     requires { F.can_make factory.now }
 {
-    making_shows(task, factory.new_service(cfg), asked)
+    let task = task(rt)?;
+    making_shows(&task, factory.new_service(cfg.again()), asked)
 }
 
-/// Whether a factory shows what it has to where it is shared in two ways.
-fn shows_where_shared<F, Req>(
-    bench: &Bench,
+/// Whether a factory shows what it has to where it is shared by `Rc`.
+fn shows_counted<F, Req>(
+    rt: &HostRuntime,
     factory: F,
     cfg: &F::Config,
     asked: &Asked<Req, F::Response, F::Error, F::InitError>,
@@ -92,19 +84,40 @@ where
         + Drop,
     requires { F.can_make factory }
 {
-    let counted = Rc::new(bench.alloc, factory)?;
-    let first = shows(&bench.task, &counted, cfg.again(), asked)?;
-    let shared = Arc::new(bench.alloc, counted)?;
-    let second = shows(&bench.task, &shared, cfg.again(), asked)?;
-    Ok(first && second)
+    let counted = Rc::new(rt.alloc(), factory)?;
+    shows(rt, &counted, cfg, asked)
 }
 
-/// Whether a factory and its copy show what they have to.
-pub(crate) fn both_show<F, Req>(
-    bench: &Bench,
+/// Whether a factory shows what it has to where it is shared by `Arc`.
+fn shows_shared<F, Req>(
+    rt: &HostRuntime,
+    factory: F,
+    cfg: &F::Config,
+    asked: &Asked<Req, F::Response, F::Error, F::InitError>,
+) -> Result<bool, AllocError>
+where
+    Req: Copy + Drop,
+    F: ServiceFactory<
+        Req,
+        Config: Again,
+        Response: PartialEq + Drop,
+        Error: NoMemory + PartialEq,
+        Service: Drop,
+        InitError: NoMemory + PartialEq,
+    >
+        + Drop,
+    requires { F.can_make factory }
+{
+    let shared = Arc::new(rt.alloc(), factory)?;
+    shows(rt, &shared, cfg, asked)
+}
+
+/// Whether a factory and its copy show what they have to each way.
+fn show_each_way<F, Req>(
+    rt: &HostRuntime,
     factory: F,
     copy: F,
-    order: &Order<F::Config>,
+    cfg: &F::Config,
     asked: &Asked<Req, F::Response, F::Error, F::InitError>,
 ) -> Result<bool, AllocError>
 where
@@ -121,11 +134,39 @@ where
     requires factory { F.can_make factory }
     requires copy { F.can_make copy }
 {
-    let lent = shows(&bench.task, &factory, order.cfg.again(), asked)?;
-    if !order.each_way {
-        return Ok(lent);
+    let lent = shows(rt, &factory, cfg, asked);
+    let copied = shows(rt, &copy, cfg, asked);
+    let counted = shows_counted(rt, factory, cfg, asked);
+    let shared = shows_shared(rt, copy, cfg, asked);
+    both(both(lent, copied), both(counted, shared))
+}
+
+/// Whether a factory and its copy show what they have to.
+pub(crate) fn both_show<F, Req>(
+    rt: &HostRuntime,
+    factory: F,
+    copy: Result<F, AllocError>,
+    order: &Order<F::Config>,
+    asked: &Asked<Req, F::Response, F::Error, F::InitError>,
+) -> Result<bool, AllocError>
+where
+    Req: Copy + Drop,
+    F: ServiceFactory<
+        Req,
+        Config: Again,
+        Response: PartialEq + Drop,
+        Error: NoMemory + PartialEq,
+        Service: Drop,
+        InitError: NoMemory + PartialEq,
+    >
+        + Drop,
+    requires factory { F.can_make factory }
+    requires copy { IfOk copy F.can_make }
+{
+    let copy = copy?;
+    if order.each_way {
+        show_each_way(rt, factory, copy, &order.cfg, asked)
+    } else {
+        shows(rt, &factory, &order.cfg, asked)
     }
-    let copied = shows(&bench.task, &copy, order.cfg.again(), asked)?;
-    let shared = shows_where_shared(bench, factory, &order.cfg, asked)?;
-    Ok(lent && copied && shared)
 }

@@ -1,189 +1,179 @@
 //! Factories that change what their parts make, whatever the parts.
 
-use crate::asking::{Bench, Order, both_show, shows};
+use crate::asking::{Order, both_show, shows};
 use crate::making::Asked;
-use crate::words::Again;
+use crate::naming::{excuse, failure, half, ok_of};
+use crate::words::{Denial, Failure, Fault};
 use service_combine::{PipelineFactory, ServiceFactoryExt, pipeline_factory};
-use service_core::{NoMemory, ServiceFactory};
-use std::alloc::AllocError;
+use service_core::ServiceFactory;
+use std::alloc::{AllocError, AllocGlobal};
 
-/// Whether a factory that is mapped shows what it has to.
-pub(crate) fn mapped<A, F, Req, Mid, Res>(
-    bench: &Bench,
-    parts: (A, F),
-    order: &Order<A::Config>,
-    asked: Asked<Req, Res, A::Error, A::InitError>,
+/// Whether a factory whose responses become a text shows what it has to.
+pub(crate) fn mapped<A>(
+    rt: &HostRuntime,
+    factory: A,
+    order: &Order<u32>,
+    asked: &Asked<(), &'static str, Fault, Denial>,
 ) -> Result<bool, AllocError>
 where
-    Req: Copy + Drop,
-    Res: PartialEq + Drop,
     A: ServiceFactory<
-        Req,
-        Config: Again,
-        Response = Mid,
-        Error: NoMemory + PartialEq,
+        (),
+        Config = u32,
+        Response = (),
+        Error = Fault,
         Service: Drop,
-        InitError: NoMemory + PartialEq,
+        InitError = Denial,
     >
         + Clone
         + Drop,
-    F: Fn(Mid) -> Res + Drop,
     requires factory { (made : _) → A.can_make made }
-    requires f { F.IsAlwaysCallable parts.1 }
 {
-    let (factory, f) = parts;
-    let mapped = ServiceFactoryExt::map(factory, bench.alloc, f)?;
-    let copy = mapped.clone()?;
-    both_show(bench, mapped, copy, order, &asked)
+    let mapped = ServiceFactoryExt::map(factory, rt.alloc(), ok_of)?;
+    let copy: Result<_, _> = mapped.clone();
+    both_show(rt, mapped, copy, order, asked)
+}
+
+/// Whether a factory whose responses are halved shows what it has to.
+pub(crate) fn halved<A>(
+    rt: &HostRuntime,
+    factory: A,
+    order: &Order<u32>,
+    asked: &Asked<u32, u32, Fault, Denial>,
+) -> Result<bool, AllocError>
+where
+    A: ServiceFactory<
+        u32,
+        Config = u32,
+        Response = u32,
+        Error = Fault,
+        Service: Drop,
+        InitError = Denial,
+    >
+        + Clone
+        + Drop,
+    requires factory { (made : _) → A.can_make made }
+{
+    let mapped = ServiceFactoryExt::map(factory, rt.alloc(), half)?;
+    let copy: Result<_, _> = mapped.clone();
+    both_show(rt, mapped, copy, order, asked)
 }
 
 /// Whether a factory whose services' errors are changed shows what it has to.
-pub(crate) fn renamed<A, F, Req, Mid, E>(
-    bench: &Bench,
-    parts: (A, F),
-    order: &Order<A::Config>,
-    asked: Asked<Req, A::Response, E, A::InitError>,
+pub(crate) fn renamed<A, Req>(
+    rt: &HostRuntime,
+    factory: A,
+    order: &Order<u32>,
+    asked: &Asked<Req, Req, Failure, Denial>,
 ) -> Result<bool, AllocError>
 where
-    Req: Copy + Drop,
-    Mid: Drop,
-    E: NoMemory + PartialEq,
+    Req: Copy + PartialEq + Drop,
     A: ServiceFactory<
         Req,
-        Config: Again,
-        Response: PartialEq + Drop,
-        Error = Mid,
+        Config = u32,
+        Response = Req,
+        Error = Fault,
         Service: Drop,
-        InitError: NoMemory + PartialEq,
+        InitError = Denial,
     >
         + Clone
         + Drop,
-    F: Fn(Mid) -> E + Drop,
     requires factory { (made : _) → A.can_make made }
-    requires f { F.IsAlwaysCallable parts.1 }
 {
-    let (factory, f) = parts;
-    let renamed = ServiceFactoryExt::map_err(factory, bench.alloc, f)?;
-    let copy = renamed.clone()?;
-    both_show(bench, renamed, copy, order, &asked)
+    let renamed = ServiceFactoryExt::map_err(factory, rt.alloc(), failure)?;
+    let copy: Result<_, _> = renamed.clone();
+    both_show(rt, renamed, copy, order, asked)
 }
 
 /// Whether a factory whose own errors are changed shows what it has to.
-pub(crate) fn excused<A, F, Req, Mid, E>(
-    bench: &Bench,
-    parts: (A, F),
-    order: &Order<A::Config>,
-    asked: Asked<Req, A::Response, A::Error, E>,
+pub(crate) fn excused<A>(
+    rt: &HostRuntime,
+    factory: A,
+    order: &Order<u32>,
+    asked: &Asked<u32, u32, Fault, Failure>,
 ) -> Result<bool, AllocError>
 where
-    Req: Copy + Drop,
-    Mid: Drop,
-    E: NoMemory + PartialEq,
     A: ServiceFactory<
-        Req,
-        Config: Again,
-        Response: PartialEq + Drop,
-        Error: NoMemory + PartialEq,
+        u32,
+        Config = u32,
+        Response = u32,
+        Error = Fault,
         Service: Drop,
-        InitError = Mid,
+        InitError = Denial,
     >
         + Clone
         + Drop,
-    F: Fn(Mid) -> E + Drop,
     requires factory { (made : _) → A.can_make made }
-    requires f { F.IsAlwaysCallable parts.1 }
 {
-    let (factory, f) = parts;
-    let excused = ServiceFactoryExt::map_init_err(factory, bench.alloc, f)?;
-    let copy = excused.clone()?;
-    both_show(bench, excused, copy, order, &asked)
+    let excused = ServiceFactoryExt::map_init_err(factory, rt.alloc(), excuse)?;
+    let copy: Result<_, _> = excused.clone();
+    both_show(rt, excused, copy, order, asked)
 }
 
 /// Whether a pipeline that is mapped shows what it has to.
-pub(crate) fn mapped_pipeline<A, F, Req, Mid, Res>(
-    bench: &Bench,
-    parts: (A, F),
-    cfg: A::Config,
-    asked: Asked<Req, Res, A::Error, A::InitError>,
+pub(crate) fn mapped_pipeline<A>(
+    rt: &HostRuntime,
+    factory: A,
+    asked: &Asked<(), &'static str, Fault, Denial>,
 ) -> Result<bool, AllocError>
 where
-    Req: Copy + Drop,
-    Res: PartialEq + Drop,
     A: ServiceFactory<
-        Req,
-        Config: Drop,
-        Response = Mid,
-        Error: NoMemory + PartialEq,
+        (),
+        Config = u32,
+        Response = (),
+        Error = Fault,
         Service: Drop,
-        InitError: NoMemory + PartialEq,
+        InitError = Denial,
     >
         + Drop,
-    F: Fn(Mid) -> Res + Drop,
-    requires factory { A.can_make parts.0 }
-    requires f { F.IsAlwaysCallable parts.1 }
+    requires { A.can_make factory }
 {
-    let (factory, f) = parts;
-    let chain: PipelineFactory<A, Req> = pipeline_factory(factory);
-    let mapped = chain.map(bench.alloc, f)?;
-    shows(&bench.task, &mapped, cfg, &asked)
+    let chain: PipelineFactory<A, ()> = pipeline_factory(factory);
+    let mapped = chain.map(rt.alloc(), ok_of)?;
+    shows(rt, &mapped, &1, asked)
 }
 
 /// Whether a pipeline whose services' errors are changed shows what it has to.
-pub(crate) fn renamed_pipeline<A, F, Req, Mid, E>(
-    bench: &Bench,
-    parts: (A, F),
-    cfg: A::Config,
-    asked: Asked<Req, A::Response, E, A::InitError>,
+pub(crate) fn renamed_pipeline<A>(
+    rt: &HostRuntime,
+    factory: A,
+    asked: &Asked<(), (), Failure, Denial>,
 ) -> Result<bool, AllocError>
 where
-    Req: Copy + Drop,
-    Mid: Drop,
-    E: NoMemory + PartialEq,
     A: ServiceFactory<
-        Req,
-        Config: Drop,
-        Response: PartialEq + Drop,
-        Error = Mid,
+        (),
+        Config = u32,
+        Response = (),
+        Error = Fault,
         Service: Drop,
-        InitError: NoMemory + PartialEq,
+        InitError = Denial,
     >
         + Drop,
-    F: Fn(Mid) -> E + Drop,
-    requires factory { A.can_make parts.0 }
-    requires f { F.IsAlwaysCallable parts.1 }
+    requires { A.can_make factory }
 {
-    let (factory, f) = parts;
-    let chain: PipelineFactory<A, Req> = pipeline_factory(factory);
-    let renamed = chain.map_err(bench.alloc, f)?;
-    shows(&bench.task, &renamed, cfg, &asked)
+    let chain: PipelineFactory<A, ()> = pipeline_factory(factory);
+    let renamed = chain.map_err(rt.alloc(), failure)?;
+    shows(rt, &renamed, &1, asked)
 }
 
 /// Whether a pipeline whose own errors are changed shows what it has to.
-pub(crate) fn excused_pipeline<A, F, Req, Mid, E>(
-    bench: &Bench,
-    parts: (A, F),
-    cfg: A::Config,
-    asked: Asked<Req, A::Response, A::Error, E>,
+pub(crate) fn excused_pipeline<A>(
+    rt: &HostRuntime,
+    factory: A,
+    asked: &Asked<u32, u32, Fault, Failure>,
 ) -> Result<bool, AllocError>
 where
-    Req: Copy + Drop,
-    Mid: Drop,
-    E: NoMemory + PartialEq,
     A: ServiceFactory<
-        Req,
-        Config: Drop,
-        Response: PartialEq + Drop,
-        Error: NoMemory + PartialEq,
+        u32,
+        Config = u32,
+        Response = u32,
+        Error = Fault,
         Service: Drop,
-        InitError = Mid,
+        InitError = Denial,
     >
         + Drop,
-    F: Fn(Mid) -> E + Drop,
-    requires factory { A.can_make parts.0 }
-    requires f { F.IsAlwaysCallable parts.1 }
+    requires { A.can_make factory }
 {
-    let (factory, f) = parts;
-    let chain: PipelineFactory<A, Req> = pipeline_factory(factory);
-    let excused = chain.map_init_err(bench.alloc, f)?;
-    shows(&bench.task, &excused, cfg, &asked)
+    let chain: PipelineFactory<A, u32> = pipeline_factory(factory);
+    let excused = chain.map_init_err(rt.alloc(), excuse)?;
+    shows(rt, &excused, &1, asked)
 }

@@ -1,6 +1,6 @@
 //! Programs over factories of services.
 
-use crate::asking::{Bench, shows};
+use crate::asking::shows;
 use crate::makers::{Steps, copies, denies};
 use crate::making::Asked;
 use crate::services::Echo;
@@ -8,8 +8,7 @@ use crate::startup::{Doubling, Startup};
 use crate::words::{Denial, Fault};
 use service_combine::{PipelineFactory, pipeline_factory};
 use service_core::{ServiceFactory, apply};
-use std::alloc::AllocError;
-use std::test::Fail;
+use std::alloc::{AllocError, AllocGlobal};
 
 // Twice a number.
 fn twice(number: u32) -> u32 {
@@ -26,7 +25,7 @@ fn at_startup(denial: Denial) -> Startup {
 
 // Whether a pipeline of factories shows what it has to, with its errors in the program's own type.
 fn shows_in_own_type<F>(
-    bench: &Bench,
+    rt: &HostRuntime,
     chain: PipelineFactory<F, u32>,
     cfg: u32,
     asked: &Asked<u32, u32, Fault, Startup>,
@@ -43,13 +42,13 @@ where
         + Drop,
     requires { ⟦<PipelineFactory<F, u32> as ServiceFactory<u32>>⟧.can_make chain }
 {
-    let factory = chain.map_init_err(bench.alloc, at_startup)?;
-    shows(&bench.task, &factory, cfg, asked)
+    let factory = chain.map_init_err(rt.alloc(), at_startup)?;
+    shows(rt, &factory, &cfg, asked)
 }
 
 // Whether a pipeline of factories shows what it has to, with its responses doubled.
 fn shows_doubled<F>(
-    bench: &Bench,
+    rt: &HostRuntime,
     chain: PipelineFactory<F, u32>,
     cfg: u32,
     asked: &Asked<u32, u32, Fault, Startup>,
@@ -66,13 +65,13 @@ where
         + Drop,
     requires { ⟦<PipelineFactory<F, u32> as ServiceFactory<u32>>⟧.can_make chain }
 {
-    let chain = chain.map(bench.alloc, twice)?;
-    shows_in_own_type(bench, chain, cfg, asked)
+    let chain = chain.map(rt.alloc(), twice)?;
+    shows_in_own_type(rt, chain, cfg, asked)
 }
 
 // Whether two factories show what they have to, one behind the other.
 fn show_in_a_pipeline<A, B>(
-    bench: &Bench,
+    rt: &HostRuntime,
     first: A,
     second: B,
     cfg: u32,
@@ -100,17 +99,27 @@ where
     requires first { A.can_make first }
     requires second { B.can_make second }
 {
-    let chain = pipeline_factory(first).and_then(bench.alloc, second)?;
-    shows_doubled(bench, chain, cfg, asked)
+    let chain = pipeline_factory(first).and_then(rt.alloc(), second)?;
+    shows_doubled(rt, chain, cfg, asked)
+}
+
+// Whether a pipeline whose second part adds its configuration shows what it has to.
+fn adds(
+    rt: &HostRuntime,
+    cfg: u32,
+    asked: &Asked<u32, u32, Fault, Startup>,
+) -> Result<bool, AllocError> {
+    show_in_a_pipeline(rt, copies(Echo), Steps, cfg, asked)
 }
 
 #[test]
-fn a_pipeline_of_factories_errs_in_the_programs_own_type(rt: HostRuntime) -> Result<(), Fail> {
-    let bench = Bench::new(&rt)?;
+fn a_pipeline_of_factories_errs_in_the_programs_own_type(
+    rt: HostRuntime,
+) -> Result<(), AllocError> {
     let answer = Asked::Served(7, Ok(20));
-    assert!(rt; show_in_a_pipeline(&bench, copies(Echo), Steps, 3, &answer)?);
+    assert!(rt; adds(&rt, 3, &answer)?);
     let error = Asked::Denied(Startup::Service);
-    assert!(rt; show_in_a_pipeline(&bench, copies(Echo), Steps, 0, &error)?);
+    assert!(rt; adds(&rt, 0, &error)?);
     Ok(())
 }
 
@@ -121,7 +130,7 @@ fn one_more(number: u32) -> u32 {
 
 // Whether a factory shows what it has to under a transform.
 fn shows_wrapped<F>(
-    bench: &Bench,
+    rt: &HostRuntime,
     inner: F,
     doubling: Doubling,
     asked: &Asked<u32, u32, Fault, Startup>,
@@ -138,13 +147,13 @@ where
         + Drop,
     requires { F.can_make inner }
 {
-    let wrapped = apply(bench.alloc, doubling, inner)?;
-    shows(&bench.task, &wrapped, (), asked)
+    let wrapped = apply(rt.alloc(), doubling, inner)?;
+    shows(rt, &wrapped, &(), asked)
 }
 
 // Whether a pipeline over a factory shows what it has to under a transform.
 fn shows_under_a_transform<F>(
-    bench: &Bench,
+    rt: &HostRuntime,
     makes: F,
     doubling: Doubling,
     asked: &Asked<u32, u32, Fault, Startup>,
@@ -161,20 +170,37 @@ where
         + Drop,
     requires { F.can_make makes }
 {
-    let inner = pipeline_factory(makes).map(bench.alloc, one_more)?;
-    shows_wrapped(bench, inner, doubling, asked)
+    let inner = pipeline_factory(makes).map(rt.alloc(), one_more)?;
+    shows_wrapped(rt, inner, doubling, asked)
+}
+
+// Whether a pipeline over a factory of services that echo shows what it has to under a transform.
+fn echoes(
+    rt: &HostRuntime,
+    doubling: Doubling,
+    asked: &Asked<u32, u32, Fault, Startup>,
+) -> Result<bool, AllocError> {
+    shows_under_a_transform(rt, copies(Echo), doubling, asked)
+}
+
+// Whether a pipeline over a factory that makes no service shows what it has to under a transform.
+fn is_denied(
+    rt: &HostRuntime,
+    doubling: Doubling,
+    asked: &Asked<u32, u32, Fault, Startup>,
+) -> Result<bool, AllocError> {
+    shows_under_a_transform(rt, denies(Denial::First), doubling, asked)
 }
 
 #[test]
-fn a_transform_stands_over_a_pipeline_of_factories(rt: HostRuntime) -> Result<(), Fail> {
-    let bench = Bench::new(&rt)?;
+fn a_transform_stands_over_a_pipeline_of_factories(rt: HostRuntime) -> Result<(), AllocError> {
     let whole = Doubling { is_broken: false };
     let broken = Doubling { is_broken: true };
     let answer = Asked::Served(7, Ok(15));
-    assert!(rt; shows_under_a_transform(&bench, copies(Echo), whole, &answer)?);
+    assert!(rt; echoes(&rt, whole, &answer)?);
     let wrapping = Asked::Denied(Startup::Wrapping);
-    assert!(rt; shows_under_a_transform(&bench, copies(Echo), broken, &wrapping)?);
+    assert!(rt; echoes(&rt, broken, &wrapping)?);
     let service = Asked::Denied(Startup::Service);
-    assert!(rt; shows_under_a_transform(&bench, denies(Denial::First), whole, &service)?);
+    assert!(rt; is_denied(&rt, whole, &service)?);
     Ok(())
 }

@@ -317,7 +317,7 @@ impl Transform<Echo, u32> for Passing {
 }
 
 /// Wraps no service.
-#[derive(Drop)]
+#[derive(Clone, Copy, Drop)]
 pub(crate) struct Refusing {
     pub(crate) denial: Denial,
 }

@@ -43,6 +43,14 @@ impl<S: Service<Req> + Drop, Req> Future for Readiness<S, Req> {
     }
 }
 
+/// A task that polls.
+pub(crate) fn task(rt: &HostRuntime) -> Result<MockTask, AllocError> {
+    match MockTask::new(rt) {
+        Ok(task) => Ok(task),
+        Err(_) => Err(AllocError),
+    }
+}
+
 /// That something else came: an error where it is want of memory.
 fn is_other<E: NoMemory + PartialEq>(error: E) -> Result<bool, AllocError> {
     if error == E::no_memory() {
@@ -80,6 +88,38 @@ where
     }
 }
 
+/// Whether a service answers so at once.
+fn answers<S, Req>(
+    task: &MockTask,
+    service: S,
+    req: Req,
+    wanted: &Result<S::Response, S::Error>,
+) -> Result<bool, AllocError>
+where
+    S: Service<Req, Response: PartialEq + Drop, Error: NoMemory + PartialEq> + Drop,
+    requires { S.can_call service }
+{
+    let mut future = service.call(req);
+    is_answer(task.poll(&mut future), wanted)
+}
+
+/// Whether the readiness of a service is so at once.
+fn is_ready<S, Req>(
+    task: &MockTask,
+    service: S,
+    wanted: &Result<(), S::Error>,
+) -> Result<bool, AllocError>
+where
+    S: Service<Req, Error: NoMemory + PartialEq> + Drop,
+    requires { S.can_call service }
+{
+    let mut readiness = Readiness {
+        service,
+        request: PhantomData,
+    };
+    is_answer(task.poll(&mut readiness), wanted)
+}
+
 /// Whether a service that is made at once answers so at once.
 fn serves<M, S, Req, I>(
     task: &MockTask,
@@ -96,11 +136,7 @@ where
     requires callable { (s : S) → M.gives making (Made s) → S.can_call s }
 {
     match task.poll(&mut making) {
-        Poll::Ready(Ok(service)) => {
-            let mut future = service.call(req);
-            let answer = task.poll(&mut future);
-            is_answer(answer, wanted)
-        }
+        Poll::Ready(Ok(service)) => answers(task, service, req, wanted),
         Poll::Ready(Err(error)) => is_other(error),
         Poll::Pending => Ok(false),
     }
@@ -120,25 +156,14 @@ where
     requires callable { (s : S) → M.gives making (Made s) → S.can_call s }
 {
     match task.poll(&mut making) {
-        Poll::Ready(Ok(service)) => {
-            let mut readiness = Readiness {
-                service,
-                request: PhantomData,
-            };
-            let answer = task.poll(&mut readiness);
-            is_answer(answer, wanted)
-        }
+        Poll::Ready(Ok(service)) => is_ready::<S, Req>(task, service, wanted),
         Poll::Ready(Err(error)) => is_other(error),
         Poll::Pending => Ok(false),
     }
 }
 
 /// Whether this comes at once in place of a service.
-pub(crate) fn denies<M, S, I>(
-    task: &MockTask,
-    mut making: M,
-    wanted: &I,
-) -> Result<bool, AllocError>
+fn denies<M, S, I>(task: &MockTask, mut making: M, wanted: &I) -> Result<bool, AllocError>
 where
     S: Drop,
     I: NoMemory + PartialEq,
@@ -148,6 +173,24 @@ where
     match task.poll(&mut making) {
         Poll::Ready(Err(error)) => is_error(error, wanted),
         _ => Ok(false),
+    }
+}
+
+/// Whether this comes at once in place of a service, with a task made for it.
+pub(crate) fn is_denied<M, S, I>(
+    rt: &HostRuntime,
+    making: M,
+    wanted: &I,
+) -> Result<bool, AllocError>
+where
+    S: Drop,
+    I: NoMemory + PartialEq,
+    M: Future<Output = Result<S, I>>,
+    requires { M.can_poll making }
+{
+    match task(rt) {
+        Ok(task) => denies(&task, making, wanted),
+        Err(_) => Err(AllocError),
     }
 }
 

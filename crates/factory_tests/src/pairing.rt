@@ -1,115 +1,97 @@
 //! Pairs of factories, whatever the parts.
 
-use crate::asking::{Bench, Order, both_show};
+use crate::asking::{Order, both_show};
 use crate::making::Asked;
-use crate::words::Again;
+use crate::words::{Again, Denial, Fault};
 use service_combine::{PipelineFactory, ServiceFactoryExt, pipeline_factory};
-use service_core::{NoMemory, ServiceFactory};
-use std::alloc::AllocError;
+use service_core::ServiceFactory;
+use std::alloc::{AllocError, AllocGlobal};
 
 /// Whether a factory of two parts shows what it has to.
 pub(crate) fn paired<A, B, Req>(
-    bench: &Bench,
-    parts: (A, B),
+    rt: &HostRuntime,
+    first: A,
+    second: B,
     order: &Order<A::Config>,
-    asked: &Asked<Req, B::Response, A::Error, A::InitError>,
+    asked: &Asked<Req, B::Response, Fault, Denial>,
 ) -> Result<bool, AllocError>
 where
     Req: Copy + Drop,
-    A: ServiceFactory<
-        Req,
-        Config: Again + Clone,
-        Error: NoMemory + PartialEq,
-        Service: Drop,
-        InitError: NoMemory + PartialEq,
-    >
+    A: ServiceFactory<Req, Config: Again + Clone, Error = Fault, Service: Drop, InitError = Denial>
         + Drop,
     B: ServiceFactory<
         A::Response,
         Config = A::Config,
         Response: PartialEq + Drop,
-        Error = A::Error,
+        Error = Fault,
         Service: Drop,
-        InitError = A::InitError,
+        InitError = Denial,
     >
         + Drop,
     requires first { (made : _) → A.can_make made }
     requires second { (made : _) → B.can_make made }
 {
-    let (first, second) = parts;
-    let both = first.and_then(bench.alloc, second)?;
-    let copy = both.clone()?;
-    both_show(bench, both, copy, order, asked)
+    let both = first.and_then(rt.alloc(), second)?;
+    let copy: Result<_, _> = both.clone();
+    both_show(rt, both, copy, order, asked)
 }
 
 /// Whether a pipeline of two parts shows what it has to.
 pub(crate) fn chained<A, B, Req>(
-    bench: &Bench,
-    parts: (A, B),
+    rt: &HostRuntime,
+    first: A,
+    second: B,
     order: &Order<A::Config>,
-    asked: &Asked<Req, B::Response, A::Error, A::InitError>,
+    asked: &Asked<Req, B::Response, Fault, Denial>,
 ) -> Result<bool, AllocError>
 where
     Req: Copy + Drop,
-    A: ServiceFactory<
-        Req,
-        Config: Again + Clone,
-        Error: NoMemory + PartialEq,
-        Service: Drop,
-        InitError: NoMemory + PartialEq,
-    >
+    A: ServiceFactory<Req, Config: Again + Clone, Error = Fault, Service: Drop, InitError = Denial>
         + Drop,
     B: ServiceFactory<
         A::Response,
         Config = A::Config,
         Response: PartialEq + Drop,
-        Error = A::Error,
+        Error = Fault,
         Service: Drop,
-        InitError = A::InitError,
+        InitError = Denial,
     >
         + Drop,
     requires first { (made : _) → A.can_make made }
     requires second { (made : _) → B.can_make made }
 {
-    let (first, second) = parts;
     let chain: PipelineFactory<A, Req> = pipeline_factory(first);
-    let both = chain.and_then(bench.alloc, second)?;
-    let copy = both.clone()?;
-    both_show(bench, both, copy, order, asked)
+    let both = chain.and_then(rt.alloc(), second)?;
+    let copy: Result<_, _> = both.clone();
+    both_show(rt, both, copy, order, asked)
 }
 
 /// Whether a pipeline whose second part gets each result shows what it has to.
 pub(crate) fn handed<A, B, Req>(
-    bench: &Bench,
-    parts: (A, B),
+    rt: &HostRuntime,
+    first: A,
+    second: B,
     order: &Order<A::Config>,
-    asked: &Asked<Req, B::Response, A::Error, A::InitError>,
+    asked: &Asked<Req, B::Response, Fault, Denial>,
 ) -> Result<bool, AllocError>
 where
     Req: Copy + Drop,
-    A: ServiceFactory<
-        Req,
-        Config: Again + Clone,
-        Error: NoMemory + PartialEq,
-        Service: Drop,
-        InitError: NoMemory + PartialEq,
-    >
+    A: ServiceFactory<Req, Config: Again + Clone, Error = Fault, Service: Drop, InitError = Denial>
         + Drop,
     B: ServiceFactory<
-        Result<A::Response, A::Error>,
+        Result<A::Response, Fault>,
         Config = A::Config,
         Response: PartialEq + Drop,
-        Error = A::Error,
+        Error = Fault,
         Service: Drop,
-        InitError = A::InitError,
+        InitError = Denial,
     >
         + Drop,
     requires first { (made : _) → A.can_make made }
     requires second { (made : _) → B.can_make made }
 {
-    let (first, second) = parts;
     let chain: PipelineFactory<A, Req> = pipeline_factory(first);
-    let both = chain.then(bench.alloc, second)?;
-    let copy = both.clone()?;
-    both_show(bench, both, copy, order, asked)
+    let both = chain.then(rt.alloc(), second)?;
+    let copy: Result<_, _> = both.clone();
+    both_show(rt, both, copy, order, asked)
 }

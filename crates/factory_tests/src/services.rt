@@ -155,34 +155,6 @@ impl Service<Result<Word, Fault>> for Summing {
     }
 }
 
-/// Answers each number with itself, and 7 in place of an error.
-#[derive(Clone, Copy, Drop)]
-pub(crate) struct Mending;
-
-impl Service<Result<u32, Fault>> for Mending {
-    type Response = u32;
-
-    type Error = Fault;
-
-    type Future = Ready<Result<u32, Fault>>;
-
-    ghost may = { λ _ _ _. ⊤ };
-
-    ghost may_ready = { λ _ _. ⊤ };
-
-    ghost may_begin = { λ _ _ f. GivesOnly ⟦<Ready<Result<u32, Fault>> as Future>⟧ f (λ _. ⊤) };
-
-    ghost begun_gives = { λ s q f h. h };
-
-    fn poll_ready(&self, _cx: &mut Context<'_>) -> Poll<Result<(), Fault>> {
-        Poll::Ready(Ok(()))
-    }
-
-    fn call(&self, req: Result<u32, Fault>) -> Ready<Result<u32, Fault>> {
-        ok(req.unwrap_or(7))
-    }
-}
-
 /// Answers half of each number.
 #[derive(Clone, Copy, Drop)]
 pub(crate) struct Halving;

@@ -1,19 +1,20 @@
 //! What transforms are asked, whatever they make.
+ghost use Rattle.std.specs.Prelude.{IfOk};
 
-use crate::asking::Bench;
-use crate::making::{Asked, making_shows};
+use crate::asking::both;
+use crate::making::{Asked, making_shows, task};
+use crate::naming::excuse;
 use crate::services::Echo;
-use crate::words::Fault;
-use futures::test::MockTask;
+use crate::words::{Denial, Failure, Fault};
 use service_combine::TransformExt;
 use service_core::{NoMemory, Transform};
-use std::alloc::AllocError;
+use std::alloc::{AllocError, AllocGlobal};
 use std::rc::Rc;
 use std::sync::Arc;
 
 /// Whether a transform shows what it has to.
 pub(crate) fn wraps<T>(
-    task: &MockTask,
+    rt: &HostRuntime,
     transform: &T,
     asked: &Asked<u32, u32, Fault, T::InitError>,
 ) -> Result<bool, AllocError>
@@ -28,74 +29,74 @@ where
     >,
     requires { (service : _) → T.can_make transform.now service }
 {
-    making_shows(task, transform.new_transform(Echo), asked)
+    let task = task(rt)?;
+    making_shows(&task, transform.new_transform(Echo), asked)
 }
 
-/// Whether a transform shows what it has to where it is borrowed, and where it is shared in two ways.
-fn wraps_each_way<T>(
-    bench: &Bench,
+/// Whether a transform shows what it has to where it is shared by `Rc`.
+fn wraps_counted<T>(
+    rt: &HostRuntime,
     transform: T,
-    asked: &Asked<u32, u32, Fault, T::InitError>,
+    asked: &Asked<u32, u32, Fault, Failure>,
 ) -> Result<bool, AllocError>
 where
-    T: Transform<
-        Echo,
-        u32,
-        Response = u32,
-        Error = Fault,
-        Transform: Drop,
-        InitError: NoMemory + PartialEq,
-    >
+    T: Transform<Echo, u32, Response = u32, Error = Fault, Transform: Drop, InitError = Failure>
         + Drop,
     requires { (service : _) → T.can_make transform service }
 {
-    let lent = wraps(&bench.task, &transform, asked)?;
-    let counted = Rc::new(bench.alloc, transform)?;
-    let first = wraps(&bench.task, &counted, asked)?;
-    let shared = Arc::new(bench.alloc, counted)?;
-    let second = wraps(&bench.task, &shared, asked)?;
-    Ok(lent && first && second)
+    let counted = Rc::new(rt.alloc(), transform)?;
+    wraps(rt, &counted, asked)
 }
 
-/// Whether a transform whose own errors are changed shows what it has to.
-pub(crate) fn excused_transform<T, F, Mid, E>(
-    bench: &Bench,
-    parts: (T, F),
-    asked: Asked<u32, u32, Fault, E>,
+/// Whether a transform shows what it has to where it is shared by `Arc`.
+fn wraps_shared<T>(
+    rt: &HostRuntime,
+    transform: T,
+    asked: &Asked<u32, u32, Fault, Failure>,
 ) -> Result<bool, AllocError>
 where
-    E: NoMemory + PartialEq,
-    Mid: Drop,
-    T: Transform<Echo, u32, Response = u32, Error = Fault, Transform: Drop, InitError = Mid> + Drop,
-    F: Fn(Mid) -> E + Drop,
-    requires transform { (service : _) → T.can_make parts.0 service }
-    requires f { F.IsAlwaysCallable parts.1 }
+    T: Transform<Echo, u32, Response = u32, Error = Fault, Transform: Drop, InitError = Failure>
+        + Drop,
+    requires { (service : _) → T.can_make transform service }
 {
-    let (transform, f) = parts;
-    let excused = transform.map_init_err(bench.alloc, f)?;
-    wraps_each_way(bench, excused, &asked)
+    let shared = Arc::new(rt.alloc(), transform)?;
+    wraps(rt, &shared, asked)
 }
 
-/// Whether a transform whose own errors are changed, and a copy of it, each show what they have to.
-pub(crate) fn copied_transform<T, F, Mid, E>(
-    bench: &Bench,
-    parts: (T, F),
-    asked: Asked<u32, u32, Fault, E>,
+/// Whether a transform and its copy show what they have to where they are borrowed, and where they are shared.
+fn wrap_each_way<T>(
+    rt: &HostRuntime,
+    transform: T,
+    copy: Result<T, AllocError>,
+    asked: &Asked<u32, u32, Fault, Failure>,
 ) -> Result<bool, AllocError>
 where
-    E: NoMemory + PartialEq,
-    Mid: Drop,
-    T: Transform<Echo, u32, Response = u32, Error = Fault, Transform: Drop, InitError = Mid>
+    T: Transform<Echo, u32, Response = u32, Error = Fault, Transform: Drop, InitError = Failure>
+        + Drop,
+    requires transform { (service : _) → T.can_make transform service }
+    requires copy { IfOk copy (λ made. (service : _) → T.can_make made service) }
+{
+    let copy = copy?;
+    let lent = wraps(rt, &transform, asked);
+    let copied = wraps(rt, &copy, asked);
+    let counted = wraps_counted(rt, transform, asked);
+    let shared = wraps_shared(rt, copy, asked);
+    both(both(lent, copied), both(counted, shared))
+}
+
+/// Whether a transform whose own errors are changed, and a copy of it, show what they have to each way.
+pub(crate) fn excused_transform<T>(
+    rt: &HostRuntime,
+    transform: T,
+    asked: &Asked<u32, u32, Fault, Failure>,
+) -> Result<bool, AllocError>
+where
+    T: Transform<Echo, u32, Response = u32, Error = Fault, Transform: Drop, InitError = Denial>
         + Clone
         + Drop,
-    F: Fn(Mid) -> E + Drop,
-    requires transform { (made : _) → (service : _) → T.can_make made service }
-    requires f { F.IsAlwaysCallable parts.1 }
+    requires { (made : _) → (service : _) → T.can_make made service }
 {
-    let (transform, f) = parts;
-    let excused = transform.map_init_err(bench.alloc, f)?;
-    let first = wraps(&bench.task, &excused, &asked)?;
-    let copy = excused.clone()?;
-    let second = wraps(&bench.task, &copy, &asked)?;
-    Ok(first && second)
+    let excused = transform.map_init_err(rt.alloc(), excuse)?;
+    let copy: Result<_, _> = excused.clone();
+    wrap_each_way(rt, excused, copy, asked)
 }

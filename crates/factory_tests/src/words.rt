@@ -71,6 +71,10 @@ pub(crate) trait Again: Drop {
     fn again(&self) -> Self;
 }
 
+impl Again for () {
+    fn again(&self) {}
+}
+
 impl Again for u32 {
     fn again(&self) -> u32 {
         *self
