@@ -54,7 +54,7 @@ def shows_memory(text):
     return bool(re.search(r"(?m)^\d+\.\d+ memory |^end memory$", text))
 
 # A test ends by an error of memory.
-ERROR = re.compile(r"(?m)^error: .*(?:Memory|Alloc)")
+ERROR = re.compile(r"(?m)^[Ee]rror: .*(?:Memory|Alloc)")
 
 def test_is_allowed(status, text):
     return status == 0 or bool(ERROR.search(text))

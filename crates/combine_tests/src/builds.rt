@@ -1,14 +1,12 @@
 //! Services that are built of any parts, and asked.
 use crate::questions::{Question, all_hold};
-use futures::test::MockTask;
 use service_combine::{ServiceExt, pipeline};
 use service_core::{NoMemory, Service};
-use std::alloc::{AllocError, Global};
+use std::alloc::AllocError;
 
 /// Whether a service answers so whose responses are changed.
 pub(crate) fn mapped<S, F, Req, R>(
-    task: &MockTask,
-    alloc: Global,
+    rt: &HostRuntime,
     service: S,
     f: F,
     questions: &[Question<Req, R, S::Error>],
@@ -21,14 +19,13 @@ where
     requires service { S.can_call service }
     requires f { F.IsAlwaysCallable f }
 {
-    let mapped = service.map(alloc, f)?;
-    all_hold(task, alloc, &mapped, questions)
+    let mapped = service.map(rt.alloc(), f)?;
+    all_hold(rt, &mapped, questions)
 }
 
 /// Whether a service answers so whose errors are changed.
 pub(crate) fn renamed<S, F, Req, E>(
-    task: &MockTask,
-    alloc: Global,
+    rt: &HostRuntime,
     service: S,
     f: F,
     questions: &[Question<Req, S::Response, E>],
@@ -41,14 +38,13 @@ where
     requires service { S.can_call service }
     requires f { F.IsAlwaysCallable f }
 {
-    let renamed = service.map_err(alloc, f)?;
-    all_hold(task, alloc, &renamed, questions)
+    let renamed = service.map_err(rt.alloc(), f)?;
+    all_hold(rt, &renamed, questions)
 }
 
 /// Whether two services answer so, one behind the other.
 pub(crate) fn chained<A, B, Req>(
-    task: &MockTask,
-    alloc: Global,
+    rt: &HostRuntime,
     first: A,
     second: B,
     questions: &[Question<Req, B::Response, A::Error>],
@@ -60,14 +56,13 @@ where
     requires first { A.can_call first }
     requires second { B.can_call second }
 {
-    let both = first.and_then(alloc, second)?;
-    all_hold(task, alloc, &both, questions)
+    let both = first.and_then(rt.alloc(), second)?;
+    all_hold(rt, &both, questions)
 }
 
 /// Whether three services answer so, bracketed to the left.
 pub(crate) fn to_the_left<A, B, C, Req>(
-    task: &MockTask,
-    alloc: Global,
+    rt: &HostRuntime,
     first: A,
     second: B,
     third: C,
@@ -82,14 +77,13 @@ where
     requires second { B.can_call second }
     requires third { C.can_call third }
 {
-    let front = first.and_then(alloc, second)?;
-    chained(task, alloc, front, third, questions)
+    let front = first.and_then(rt.alloc(), second)?;
+    chained(rt, front, third, questions)
 }
 
 /// Whether three services answer so, bracketed to the right.
 pub(crate) fn to_the_right<A, B, C, Req>(
-    task: &MockTask,
-    alloc: Global,
+    rt: &HostRuntime,
     first: A,
     second: B,
     third: C,
@@ -104,14 +98,13 @@ where
     requires second { B.can_call second }
     requires third { C.can_call third }
 {
-    let back = second.and_then(alloc, third)?;
-    chained(task, alloc, first, back, questions)
+    let back = second.and_then(rt.alloc(), third)?;
+    chained(rt, first, back, questions)
 }
 
 /// Whether two services answer so, each result of the first handed to the second.
 pub(crate) fn handed<A, B, Req>(
-    task: &MockTask,
-    alloc: Global,
+    rt: &HostRuntime,
     first: A,
     second: B,
     questions: &[Question<Req, B::Response, A::Error>],
@@ -123,6 +116,6 @@ where
     requires first { A.can_call first }
     requires second { B.can_call second }
 {
-    let both = pipeline(first).then(alloc, second)?;
-    all_hold(task, alloc, &both, questions)
+    let both = pipeline(first).then(rt.alloc(), second)?;
+    all_hold(rt, &both, questions)
 }

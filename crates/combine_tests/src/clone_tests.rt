@@ -4,24 +4,20 @@ use crate::numbers::{Dividing, Mending};
 use crate::questions::{Question, all_hold};
 use crate::service_tests::quarters;
 use crate::services::Fault;
-use futures::test::MockTask;
 use service_combine::ServiceExt;
-use std::alloc::{AllocError, Global};
-use std::test::Fail;
+use std::alloc::AllocError;
 
 #[test]
-fn a_clone_answers_as_its_original(rt: HostRuntime) -> Result<(), Fail> {
-    let task = MockTask::new(&rt)?;
-    let alloc = rt.alloc();
-    let (halving, third) = (Dividing { by: 2 }, Dividing { by: 3 });
+fn a_clone_answers_as_its_original(rt: HostRuntime) -> Result<(), AllocError> {
+    let halving = Dividing { by: 2 };
     let asked = [Question::Answers(42, Ok(7))];
-    assert!(rt; chained(&task, alloc, halving, third, &asked)?);
+    assert!(rt; chained(&rt, halving, Dividing { by: 3 }, &asked)?);
     let mending = Mending {
         error: Fault::Bad,
         with: 7,
     };
     let asked = [Question::Answers(42, Ok(21))];
-    assert!(rt; handed(&task, alloc, halving, mending, &asked)?);
+    assert!(rt; handed(&rt, halving, mending, &asked)?);
     Ok(())
 }
 
@@ -37,41 +33,35 @@ fn same(fault: Fault) -> Fault {
 
 // Whether a copy of a service whose responses are halved answers so.
 fn copy_halves(
-    task: &MockTask,
-    alloc: Global,
+    rt: &HostRuntime,
     questions: &[Question<u32, u32, Fault>],
 ) -> Result<bool, AllocError> {
-    let mapped = ServiceExt::map(Dividing { by: 1 }, alloc, half)?;
+    let mapped = ServiceExt::map(Dividing { by: 1 }, rt.alloc(), half)?;
     let copy = mapped.clone()?;
-    all_hold(task, alloc, &copy, questions)
+    all_hold(rt, &copy, questions)
 }
 
 // Whether a copy of a service whose errors are changed answers so.
 fn copy_is_renamed(
-    task: &MockTask,
-    alloc: Global,
+    rt: &HostRuntime,
     questions: &[Question<u32, u32, Fault>],
 ) -> Result<bool, AllocError> {
-    let renamed = ServiceExt::map_err(Dividing { by: 1 }, alloc, same)?;
+    let renamed = ServiceExt::map_err(Dividing { by: 1 }, rt.alloc(), same)?;
     let copy = renamed.clone()?;
-    all_hold(task, alloc, &copy, questions)
+    all_hold(rt, &copy, questions)
 }
 
 #[test]
-fn copies_of_changed_services_answer_as_their_originals(rt: HostRuntime) -> Result<(), Fail> {
-    let task = MockTask::new(&rt)?;
-    let alloc = rt.alloc();
-    assert!(rt; copy_halves(&task, alloc, &[Question::Answers(8, Ok(4))])?);
+fn copies_of_changed_services_answer_as_their_originals(rt: HostRuntime) -> Result<(), AllocError> {
+    assert!(rt; copy_halves(&rt, &[Question::Answers(8, Ok(4))])?);
     let asked = [Question::Answers(8, Ok(8))];
-    assert!(rt; copy_is_renamed(&task, alloc, &asked)?);
-    assert!(rt; begun(&task, alloc, Dividing { by: 1 }, &asked)?);
+    assert!(rt; copy_is_renamed(&rt, &asked)?);
+    assert!(rt; begun(&rt, Dividing { by: 1 }, &asked)?);
     Ok(())
 }
 
 #[test]
-fn a_copy_of_apply_answers_as_its_original(rt: HostRuntime) -> Result<(), Fail> {
-    let task = MockTask::new(&rt)?;
-    let asked = [Question::Answers(8, Ok(2))];
-    assert!(rt; quarters(&task, rt.alloc(), &asked)?);
+fn a_copy_of_apply_answers_as_its_original(rt: HostRuntime) -> Result<(), AllocError> {
+    assert!(rt; quarters(&rt, Question::Answers(8, Ok(2)))?);
     Ok(())
 }

@@ -1,14 +1,12 @@
 //! Copies of services that are built of any parts, and asked.
 use crate::questions::{Question, all_hold};
-use futures::test::MockTask;
 use service_combine::{ServiceExt, pipeline};
 use service_core::{NoMemory, Service};
-use std::alloc::{AllocError, Global};
+use std::alloc::AllocError;
 
 /// Whether a copy of a pipeline answers so that has begun with a service.
 pub(crate) fn begun<S, Req>(
-    task: &MockTask,
-    alloc: Global,
+    rt: &HostRuntime,
     service: S,
     questions: &[Question<Req, S::Response, S::Error>],
 ) -> Result<bool, AllocError>
@@ -19,13 +17,12 @@ where
 {
     let begun = pipeline(service);
     let copy = begun.clone()?;
-    all_hold(task, alloc, &copy, questions)
+    all_hold(rt, &copy, questions)
 }
 
 /// Whether a copy of two services answers so, one behind the other, once the original is gone.
 pub(crate) fn chained<A, B, Req>(
-    task: &MockTask,
-    alloc: Global,
+    rt: &HostRuntime,
     first: A,
     second: B,
     questions: &[Question<Req, B::Response, A::Error>],
@@ -37,16 +34,15 @@ where
     requires first { A.can_call first }
     requires second { B.can_call second }
 {
-    let both = first.and_then(alloc, second)?;
+    let both = first.and_then(rt.alloc(), second)?;
     let copy = both.clone()?;
     drop(both);
-    all_hold(task, alloc, &copy, questions)
+    all_hold(rt, &copy, questions)
 }
 
 /// Whether a copy of two services answers so, each result of the first handed to the second, once the original is gone.
 pub(crate) fn handed<A, B, Req>(
-    task: &MockTask,
-    alloc: Global,
+    rt: &HostRuntime,
     first: A,
     second: B,
     questions: &[Question<Req, B::Response, A::Error>],
@@ -58,8 +54,8 @@ where
     requires first { A.can_call first }
     requires second { B.can_call second }
 {
-    let both = pipeline(first).then(alloc, second)?;
+    let both = pipeline(first).then(rt.alloc(), second)?;
     let copy = both.clone()?;
     drop(both);
-    all_hold(task, alloc, &copy, questions)
+    all_hold(rt, &copy, questions)
 }

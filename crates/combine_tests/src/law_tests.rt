@@ -3,18 +3,17 @@ use crate::builds::{chained, handed, mapped, to_the_left, to_the_right};
 use crate::numbers::{Dividing, Mending};
 use crate::questions::Question;
 use crate::services::{Fault, Faulty};
-use futures::test::MockTask;
 use service_combine::ServiceExt;
-use std::test::Fail;
+use std::alloc::AllocError;
 
 #[test]
-fn chains_answer_alike_however_they_are_bracketed(rt: HostRuntime) -> Result<(), Fail> {
-    let task = MockTask::new(&rt)?;
-    let alloc = rt.alloc();
-    let (two, three, five) = (Dividing { by: 2 }, Dividing { by: 3 }, Dividing { by: 5 });
+fn chains_answer_alike_however_they_are_bracketed(rt: HostRuntime) -> Result<(), AllocError> {
+    let two = Dividing { by: 2 };
+    let three = Dividing { by: 3 };
+    let five = Dividing { by: 5 };
     let asked = [Question::Answers(90, Ok(3))];
-    assert!(rt; to_the_left(&task, alloc, two, three, five, &asked)?);
-    assert!(rt; to_the_right(&task, alloc, two, three, five, &asked)?);
+    assert!(rt; to_the_left(&rt, two, three, five, &asked)?);
+    assert!(rt; to_the_right(&rt, two, three, five, &asked)?);
     Ok(())
 }
 
@@ -28,30 +27,33 @@ fn half(number: u32) -> u32 {
     number / 2
 }
 
+// Whether a service whose responses stay as they are, and are halved then, answers so.
+fn halves_the_same(
+    rt: &HostRuntime,
+    questions: &[Question<u32, u32, Fault>],
+) -> Result<bool, AllocError> {
+    let once = Dividing { by: 1 }.map(rt.alloc(), same)?;
+    mapped(rt, once, half, questions)
+}
+
 #[test]
-fn two_maps_answer_as_one(rt: HostRuntime) -> Result<(), Fail> {
-    let task = MockTask::new(&rt)?;
-    let alloc = rt.alloc();
-    let echo = Dividing { by: 1 };
+fn two_maps_answer_as_one(rt: HostRuntime) -> Result<(), AllocError> {
     let asked = [Question::Answers(8, Ok(4))];
-    let once = echo.map(alloc, same)?;
-    assert!(rt; mapped(&task, alloc, once, half, &asked)?);
-    assert!(rt; mapped(&task, alloc, echo, half, &asked)?);
+    assert!(rt; halves_the_same(&rt, &asked)?);
+    assert!(rt; mapped(&rt, Dividing { by: 1 }, half, &asked)?);
     Ok(())
 }
 
 #[test]
-fn an_error_passes_and_then_and_reaches_then(rt: HostRuntime) -> Result<(), Fail> {
-    let task = MockTask::new(&rt)?;
-    let alloc = rt.alloc();
+fn an_error_passes_and_then_and_reaches_then(rt: HostRuntime) -> Result<(), AllocError> {
     let faulty = Faulty { fault: Fault::Bad };
     let asked = [Question::Answers(8, Err(Fault::Bad))];
-    assert!(rt; chained(&task, alloc, faulty, Dividing { by: 2 }, &asked)?);
+    assert!(rt; chained(&rt, faulty, Dividing { by: 2 }, &asked)?);
     let asked = [Question::Answers(8, Ok(7))];
     let mending = Mending {
         error: Fault::Bad,
         with: 7,
     };
-    assert!(rt; handed(&task, alloc, faulty, mending, &asked)?);
+    assert!(rt; handed(&rt, faulty, mending, &asked)?);
     Ok(())
 }

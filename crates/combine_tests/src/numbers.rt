@@ -83,7 +83,7 @@ impl Service<u32> for Adding {
 }
 
 /// Adds a step to each number up to a limit, and refuses those above it.
-#[derive(Clone, Copy, Drop)]
+#[derive(Drop)]
 pub(crate) struct Limited<E> {
     pub(crate) limit: u32,
     pub(crate) step: u32,
@@ -119,7 +119,7 @@ impl<E: Copy + Drop> Service<u32> for Limited<E> {
 }
 
 /// Answers each number that came with itself, one error with a number, and each other error with itself.
-#[derive(Clone, Copy, Drop)]
+#[derive(Drop)]
 pub(crate) struct Mending<E> {
     pub(crate) error: E,
     pub(crate) with: u32,

@@ -1,14 +1,12 @@
 //! Pipelines that are built of any parts, and asked.
 use crate::questions::{Question, all_hold};
-use futures::test::MockTask;
 use service_combine::pipeline;
 use service_core::{NoMemory, Service};
-use std::alloc::{AllocError, Global};
+use std::alloc::AllocError;
 
 /// Whether a pipeline of two services answers so, one behind the other.
 pub(crate) fn chained<A, B, Req>(
-    task: &MockTask,
-    alloc: Global,
+    rt: &HostRuntime,
     first: A,
     second: B,
     questions: &[Question<Req, B::Response, A::Error>],
@@ -20,6 +18,6 @@ where
     requires first { A.can_call first }
     requires second { B.can_call second }
 {
-    let both = pipeline(first).and_then(alloc, second)?;
-    all_hold(task, alloc, &both, questions)
+    let both = pipeline(first).and_then(rt.alloc(), second)?;
+    all_hold(rt, &both, questions)
 }

@@ -1,7 +1,8 @@
 //! What a service is asked.
-ghost use Rattle.std.specs.Prelude.{⊤};
+ghost use Rattle.std.specs.Prelude.{true, ◌≡◌, ⊤};
 
 use crate::services::Asked;
+use futures::Future;
 use futures::task::Poll;
 use futures::test::MockTask;
 use service_core::{NoMemory, Service};
@@ -100,6 +101,14 @@ fn readiness<S: Service<Req> + Drop, Req>(task: &MockTask, service: S) -> Poll<R
     task.poll(&mut asked)
 }
 
+// Whether a future is pending at two polls. It can be polled again then.
+fn waits_twice<F: Future<Output: Drop>>(task: &MockTask, future: &mut F) -> bool
+    requires { F.can_poll future.old }
+    ensures { result ≡ true → F.can_poll future.new }
+{
+    task.poll(future).is_pending() && task.poll(future).is_pending()
+}
+
 // Whether a call is pending twice, and gives this at its third poll.
 fn answers_third<S, Req>(
     task: &MockTask,
@@ -112,13 +121,11 @@ where
     requires { S.can_call service }
 {
     let mut future = service.call(req);
-    let Poll::Pending = task.poll(&mut future) else {
-        return Ok(false);
-    };
-    let Poll::Pending = task.poll(&mut future) else {
-        return Ok(false);
-    };
-    is(task.poll(&mut future), want)
+    if waits_twice(task, &mut future) {
+        is(task.poll(&mut future), want)
+    } else {
+        Ok(false)
+    }
 }
 
 // Whether a call is pending at its first poll. It is dropped then.
@@ -133,54 +140,114 @@ fn waits<S: Service<Req, Response: Drop, Error: Drop> + Drop, Req>(
     task.poll(&mut future).is_pending()
 }
 
-// Whether a service answers so where it is lent, in a box, shared, and lent to be changed.
-fn answers_each_way<S, Req>(
+/// Whether both are so.
+pub(crate) fn both(
+    one: Result<bool, AllocError>,
+    other: Result<bool, AllocError>,
+) -> Result<bool, AllocError> {
+    Ok(one? && other?)
+}
+
+// Whether a service answers a question so that is asked each way.
+fn once<S, Req>(
     task: &MockTask,
-    alloc: Global,
     service: S,
-    req: Req,
-    want: &Result<S::Response, S::Error>,
+    question: &Question<Req, S::Response, S::Error>,
 ) -> Result<bool, AllocError>
 where
     S: Service<Req, Response: PartialEq + Drop, Error: PartialEq + NoMemory> + Drop,
     Req: Copy,
     requires { S.can_call service }
 {
-    let lent = answers(task, &service, req, want)?;
-    let boxed = Box::new(alloc, service)?;
-    let owned = answers(task, &boxed, req, want)?;
-    let counted = Rc::new(alloc, boxed)?;
-    let shared = answers(task, &counted, req, want)?;
-    let mut counted = Arc::new(alloc, counted)?;
-    let shared_widely = answers(task, &counted, req, want)?;
-    let lent_mutably = answers(task, &mut counted, req, want)?;
-    Ok(lent && owned && shared && shared_widely && lent_mutably)
+    match question {
+        Question::AnswersEachWay(req, want) => answers(task, service, *req, want),
+        Question::IsReadyEachWay(want) => is(readiness(task, service), want),
+        _ => Ok(false),
+    }
 }
 
-// Whether the readiness of a service is so where it is lent, in a box, shared, and lent to be changed.
-fn is_ready_each_way<S, Req>(
+// Whether a service answers so in a box.
+fn boxed<S, Req>(
     task: &MockTask,
     alloc: Global,
-    service: S,
-    want: &Result<(), S::Error>,
+    service: &S,
+    question: &Question<Req, S::Response, S::Error>,
 ) -> Result<bool, AllocError>
 where
-    S: Service<Req, Error: PartialEq + NoMemory> + Drop,
-    requires { S.can_call service }
+    S: Service<Req, Response: PartialEq + Drop, Error: PartialEq + NoMemory> + Drop,
+    Req: Copy,
+    requires { S.can_call service.now }
 {
-    let lent = is(readiness::<_, Req>(task, &service), want)?;
-    let boxed = Box::new(alloc, service)?;
-    let owned = is(readiness::<_, Req>(task, &boxed), want)?;
-    let counted = Rc::new(alloc, boxed)?;
-    let shared = is(readiness::<_, Req>(task, &counted), want)?;
-    let mut counted = Arc::new(alloc, counted)?;
-    let shared_widely = is(readiness::<_, Req>(task, &counted), want)?;
-    let lent_mutably = is(readiness::<_, Req>(task, &mut counted), want)?;
-    Ok(lent && owned && shared && shared_widely && lent_mutably)
+    once(task, Box::new(alloc, service)?, question)
 }
 
-/// Whether a service answers a question so.
-pub(crate) fn holds<S, Req>(
+// Whether a service answers so where it is shared.
+fn shared<S, Req>(
+    task: &MockTask,
+    alloc: Global,
+    service: &S,
+    question: &Question<Req, S::Response, S::Error>,
+) -> Result<bool, AllocError>
+where
+    S: Service<Req, Response: PartialEq + Drop, Error: PartialEq + NoMemory> + Drop,
+    Req: Copy,
+    requires { S.can_call service.now }
+{
+    once(task, Rc::new(alloc, service)?, question)
+}
+
+// Whether a service answers so where it is shared widely.
+fn shared_widely<S, Req>(
+    task: &MockTask,
+    alloc: Global,
+    service: &S,
+    question: &Question<Req, S::Response, S::Error>,
+) -> Result<bool, AllocError>
+where
+    S: Service<Req, Response: PartialEq + Drop, Error: PartialEq + NoMemory> + Drop,
+    Req: Copy,
+    requires { S.can_call service.now }
+{
+    once(task, Arc::new(alloc, service)?, question)
+}
+
+// Whether a service answers so where it is lent to be changed.
+fn lent_mutably<S, Req>(
+    task: &MockTask,
+    service: &S,
+    question: &Question<Req, S::Response, S::Error>,
+) -> Result<bool, AllocError>
+where
+    S: Service<Req, Response: PartialEq + Drop, Error: PartialEq + NoMemory> + Drop,
+    Req: Copy,
+    requires { S.can_call service.now }
+{
+    let mut service = service;
+    once(task, &mut service, question)
+}
+
+// Whether a service answers so where it is lent, in a box, shared, and lent to be changed.
+fn each_way<S, Req>(
+    task: &MockTask,
+    alloc: Global,
+    service: &S,
+    question: &Question<Req, S::Response, S::Error>,
+) -> Result<bool, AllocError>
+where
+    S: Service<Req, Response: PartialEq + Drop, Error: PartialEq + NoMemory> + Drop,
+    Req: Copy,
+    requires { S.can_call service.now }
+{
+    let owned = boxed(task, alloc, service, question);
+    let counted = shared(task, alloc, service, question);
+    let counted_widely = shared_widely(task, alloc, service, question);
+    let lent = once(task, service, question);
+    let lent_either_way = both(lent, lent_mutably(task, service, question));
+    both(both(owned, lent_either_way), both(counted, counted_widely))
+}
+
+// Whether a service answers a question so.
+fn holds<S, Req>(
     task: &MockTask,
     alloc: Global,
     service: &S,
@@ -197,15 +264,14 @@ where
         Question::Waits(req) => Ok(waits(task, service, *req)),
         Question::IsReady(want) => is(readiness(task, service), want),
         Question::ReadinessWaits => Ok(readiness(task, service).is_pending()),
-        Question::AnswersEachWay(req, want) => answers_each_way(task, alloc, service, *req, want),
-        Question::IsReadyEachWay(want) => {
-            is_ready_each_way::<&S, Req>(task, alloc, service, want)
+        Question::AnswersEachWay(_, _) | Question::IsReadyEachWay(_) => {
+            each_way(task, alloc, service, question)
         }
     }
 }
 
-/// Whether a service answers each question so, in order.
-pub(crate) fn all_hold<S, Req>(
+// Whether a service answers each question so, in order, where a task asks it.
+fn hold_in_order<S, Req>(
     task: &MockTask,
     alloc: Global,
     service: &S,
@@ -222,4 +288,27 @@ where
         }
     }
     Ok(true)
+}
+
+/// A task that polls. Where none can be made, that is want of memory.
+pub(crate) fn task(rt: &HostRuntime) -> Result<MockTask, AllocError> {
+    match MockTask::new(rt) {
+        Ok(task) => Ok(task),
+        Err(_) => Err(AllocError),
+    }
+}
+
+/// Whether a service answers each question so, in order.
+pub(crate) fn all_hold<S, Req>(
+    rt: &HostRuntime,
+    service: &S,
+    questions: &[Question<Req, S::Response, S::Error>],
+) -> Result<bool, AllocError>
+where
+    S: Service<Req, Response: PartialEq + Drop, Error: PartialEq + NoMemory> + Drop,
+    Req: Copy,
+    requires { S.can_call service.now }
+{
+    let task = task(rt)?;
+    hold_in_order(&task, rt.alloc(), service, questions)
 }

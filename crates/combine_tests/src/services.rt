@@ -113,7 +113,7 @@ impl<T: Drop> Service<T> for Faulty {
 }
 
 /// Answers each request with itself and a word.
-#[derive(Clone, Copy, Drop)]
+#[derive(Drop)]
 pub(crate) struct Tagging {
     pub(crate) tag: Word,
 }
@@ -143,7 +143,7 @@ impl<T: Drop> Service<T> for Tagging {
 }
 
 /// Answers as its request says.
-#[derive(Clone, Copy, Drop)]
+#[derive(Drop)]
 pub(crate) struct Obeying;
 
 impl<T: Drop> Service<Result<T, Fault>> for Obeying {
@@ -171,7 +171,7 @@ impl<T: Drop> Service<Result<T, Fault>> for Obeying {
 }
 
 /// Answers each result with its word and a word on it.
-#[derive(Clone, Copy, Drop)]
+#[derive(Drop)]
 pub(crate) struct Summing;
 
 impl Service<Result<Word, Fault>> for Summing {
@@ -266,7 +266,7 @@ impl<S: Service<Req>, Req> Service<Req> for Counting<'_, S> {
 }
 
 /// Calls its service, but errs where it is asked whether it is ready.
-#[derive(Clone, Copy, Drop)]
+#[derive(Drop)]
 pub(crate) struct Unready<S> {
     pub(crate) service: S,
 }

@@ -1,9 +1,8 @@
 //! A service, asked through so many maps.
 use crate::questions::{Question, all_hold};
-use futures::test::MockTask;
 use service_combine::ServiceExt;
 use service_core::{NoMemory, Service};
-use std::alloc::{AllocError, Global};
+use std::alloc::AllocError;
 use std::marker::PhantomData;
 
 /// Three times a number and one more.
@@ -15,8 +14,7 @@ pub(crate) fn tripled(number: u32) -> u32 {
 pub(crate) trait Through {
     /// Whether the service answers so.
     fn holds<S>(
-        task: &MockTask,
-        alloc: Global,
+        rt: &HostRuntime,
         service: S,
         questions: &[Question<u32, u32, S::Error>],
     ) -> Result<bool, AllocError>
@@ -30,15 +28,14 @@ pub(crate) struct Straight;
 
 impl Through for Straight {
     fn holds<S>(
-        task: &MockTask,
-        alloc: Global,
+        rt: &HostRuntime,
         service: S,
         questions: &[Question<u32, u32, S::Error>],
     ) -> Result<bool, AllocError>
     where
         S: Service<u32, Response = u32, Error: PartialEq + NoMemory> + Drop,
     {
-        all_hold(task, alloc, &service, questions)
+        all_hold(rt, &service, questions)
     }
 }
 
@@ -49,16 +46,15 @@ pub(crate) struct More<T> {
 
 impl<T: Through> Through for More<T> {
     fn holds<S>(
-        task: &MockTask,
-        alloc: Global,
+        rt: &HostRuntime,
         service: S,
         questions: &[Question<u32, u32, S::Error>],
     ) -> Result<bool, AllocError>
     where
         S: Service<u32, Response = u32, Error: PartialEq + NoMemory> + Drop,
     {
-        let mapped = service.map(alloc, tripled)?;
-        T::holds(task, alloc, mapped, questions)
+        let mapped = service.map(rt.alloc(), tripled)?;
+        T::holds(rt, mapped, questions)
     }
 }
 
