@@ -1,5 +1,5 @@
 //! The builder of a policy, after `Cors` of the crate actix-cors.
-ghost use Rattle.std.specs.Prelude.{◌≡◌, IfOk};
+ghost use Rattle.std.specs.Prelude.{◌≡◌, IfOk, OnOk, Ok};
 ghost use Rattle.cors_rules.specs.Policy.{fresh};
 ghost use Rattle.cors_rules.specs.Building.{keep, permissive};
 ghost use Rattle.cors_rules.specs.Equality.{policy_eq, policy_per};
@@ -68,11 +68,21 @@ impl<G: OriginRule> Cors<G> {
     }
 
     // The error is kept, unless there is one before it.
-    pub(crate) fn keeping(mut self, error: ConfigError) -> Cors<G>
-        ensures { result ≡ keep self error }
+    pub(crate) fn keep_error(&mut self, error: ConfigError)
+        ensures { self.new ≡ keep self.old error }
     {
         self.error = self.error.or(Some(error));
-        self
+    }
+
+    // The builder, unless memory ran out.
+    pub(crate) fn after(self, added: Result<(), AllocError>) -> Result<Cors<G>, AllocError>
+        ensures same { IfOk result (λ cors. cors ≡ self) }
+        ensures added { OnOk result (added ≡ Ok tt) }
+    {
+        match added {
+            Ok(()) => Ok(self),
+            Err(error) => Err(error),
+        }
     }
 
     /// Why the policy is refused, if it is.

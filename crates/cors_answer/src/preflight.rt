@@ -1,7 +1,10 @@
 //! The answer to a preflight (Fetch Standard, "CORS protocol").
-ghost use Rattle.std.specs.Prelude.{◌≡◌, [], IfOk, option_copied, decimal, option_map};
+ghost use Rattle.std.specs.Prelude.{◌≡◌, ◌++◌, [], IfOk, OnOk, codes, option_copied, decimal, option_map};
 ghost use Rattle.http1_plain.specs.Views.{view};
-ghost use Rattle.cors_rules.specs.Fields.{allowed_value, vary};
+ghost use Rattle.cors_rules.specs.Sets.{joined_some};
+ghost use Rattle.cors_rules.specs.Origins.{granted_value};
+ghost use Rattle.cors_rules.specs.Requested.{asked_headers};
+ghost use Rattle.cors_rules.specs.Fields.{allowed_value, field, vary, when};
 ghost use Rattle.cors_rules.specs.Answers.{preflight_check, preflight_headers, preflight};
 
 use crate::refusal::CorsRefusal;
@@ -58,28 +61,74 @@ fn age_value(alloc: Global, max_age: Option<u64>) -> Result<Option<FieldValue>, 
     }
 }
 
-// The headers of the answer, in their order.
-#[tactic(auto, using(std::proofs::Common::append_assoc), unfolding(cors_rules::specs::Answers::preflight_headers))]
-fn preflight_headers<G: OriginRule>(
+// Appends the origin that is granted.
+fn push_origin<G: OriginRule>(
     policy: &Policy<G>,
     alloc: Global,
     head: &RequestHead,
-) -> Result<HeaderList, AllocError>
-    ensures { IfOk result (λ headers. headers ≡ preflight_headers policy.now (view head.now)) }
+    headers: &mut HeaderList,
+) -> Result<(), AllocError>
+    ensures { OnOk result (headers.new ≡ headers.old ++ field (codes "access-control-allow-origin") (granted_value policy.now (view head.now))) }
 {
-    let mut headers = HeaderList::new(alloc);
     let origin = policy.grant_value(alloc, head)?;
-    push_field(&mut headers, ACCESS_CONTROL_ALLOW_ORIGIN, origin)?;
+    push_field(headers, ACCESS_CONTROL_ALLOW_ORIGIN, origin)
+}
+
+// Appends the methods that are allowed.
+fn push_methods<G: OriginRule>(
+    policy: &Policy<G>,
+    alloc: Global,
+    headers: &mut HeaderList,
+) -> Result<(), AllocError>
+    ensures { OnOk result (headers.new ≡ headers.old ++ field (codes "access-control-allow-methods") (joined_some policy.now.methods)) }
+{
     let methods = policy.methods.joined_some(alloc)?;
-    push_field(&mut headers, ACCESS_CONTROL_ALLOW_METHODS, methods)?;
+    push_field(headers, ACCESS_CONTROL_ALLOW_METHODS, methods)
+}
+
+// Appends the names of request headers that are allowed.
+fn push_names<G: OriginRule>(
+    policy: &Policy<G>,
+    alloc: Global,
+    head: &RequestHead,
+    headers: &mut HeaderList,
+) -> Result<(), AllocError>
+    ensures { OnOk result (headers.new ≡ headers.old ++ field (codes "access-control-allow-headers") (allowed_value policy.now.headers (asked_headers (view head.now)))) }
+{
     let asked = head.headers.get(&ACCESS_CONTROL_REQUEST_HEADERS);
     let names = allowed_value(policy, alloc, asked)?;
-    push_field(&mut headers, ACCESS_CONTROL_ALLOW_HEADERS, names)?;
+    push_field(headers, ACCESS_CONTROL_ALLOW_HEADERS, names)
+}
+
+// Appends whether credentials may be sent, and how long the answer may be kept.
+#[tactic(auto, using(std::proofs::Common::append_assoc))]
+fn push_flags<G: OriginRule>(
+    policy: &Policy<G>,
+    alloc: Global,
+    headers: &mut HeaderList,
+) -> Result<(), AllocError>
+    ensures { OnOk result (headers.new ≡ headers.old ++ (field (codes "access-control-allow-credentials") (when policy.now.credentials (codes "true")) ++ field (codes "access-control-max-age") (option_map decimal policy.now.max_age))) }
+{
     let credentials = true_where(alloc, policy.credentials)?;
-    push_field(&mut headers, ACCESS_CONTROL_ALLOW_CREDENTIALS, credentials)?;
+    push_field(headers, ACCESS_CONTROL_ALLOW_CREDENTIALS, credentials)?;
     let age = age_value(alloc, policy.max_age)?;
-    push_field(&mut headers, ACCESS_CONTROL_MAX_AGE, age)?;
-    Ok(headers)
+    push_field(headers, ACCESS_CONTROL_MAX_AGE, age)
+}
+
+// Appends the headers of the answer, in their order.
+#[tactic(auto, using(std::proofs::Common::append_assoc), unfolding(cors_rules::specs::Answers::preflight_headers))]
+fn push_headers<G: OriginRule>(
+    policy: &Policy<G>,
+    alloc: Global,
+    head: &RequestHead,
+    headers: &mut HeaderList,
+) -> Result<(), AllocError>
+    ensures { OnOk result (headers.new ≡ headers.old ++ preflight_headers policy.now (view head.now)) }
+{
+    push_origin(policy, alloc, head, headers)?;
+    push_methods(policy, alloc, headers)?;
+    push_names(policy, alloc, head, headers)?;
+    push_flags(policy, alloc, headers)
 }
 
 // The answer where the check passed.
@@ -90,7 +139,8 @@ fn passed_preflight<G: OriginRule>(
 ) -> Result<Response, AllocError>
     ensures { IfOk result (λ r. r ≡ record { status = 200; headers = vary policy.now (preflight_headers policy.now (view head.now)); body = [] }) }
 {
-    let mut headers = preflight_headers(policy, alloc, head)?;
+    let mut headers = HeaderList::new(alloc);
+    push_headers(policy, alloc, head, &mut headers)?;
     vary_where(policy, &mut headers)?;
     let mut response = Response::new(alloc, 200);
     response.set_headers(headers);

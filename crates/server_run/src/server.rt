@@ -33,6 +33,9 @@ impl<F> Server<F> {
     /// ended. Each is handed to `done` with its link, exactly once.
     ///
     /// There is one listener at most for now. A listener that answers `Skipped` or `Failed` is asked again.
+    ///
+    /// Of a listener that tells nothing of the links still to come (its `left` is `None`) `delivered` holds little: how many
+    /// entries there are, their numbers, and that each has some link as it came back, but not which link of the listener.
     pub fn serve<Ho, Li, Do>(
         self,
         rt: &Ho,

@@ -1,5 +1,5 @@
 //! The calls of the builder that set a flag, a number, or everything.
-ghost use Rattle.std.specs.Prelude.{◌≡◌, true, false, IfOk};
+ghost use Rattle.std.specs.Prelude.{◌≡◌, true, false, IfOk, OnOk};
 ghost use Rattle.cors_rules.specs.Building.{set_policy, nine_methods};
 
 use crate::cors::Cors;
@@ -108,14 +108,23 @@ impl<G: OriginRule> Cors<G> {
         self
     }
 
-    /// All methods of HTTP (RFC 9110, section 9, and RFC 5789) are allowed.
-    pub fn allow_any_method(mut self) -> Result<Cors<G>, AllocError>
-        ensures { IfOk result (λ cors. cors ≡ set_policy self (record self.policy { methods = nine_methods })) }
+    // The nine methods.
+    fn add_any_method(&mut self) -> Result<(), AllocError>
+        ensures { OnOk result (self.new ≡ set_policy self.old (record self.old.policy { methods = nine_methods })) }
     {
         if self.error.is_some() {
-            return Ok(self);
+            return Ok(());
         }
         self.policy.methods = nine_methods(self.alloc)?;
-        Ok(self)
+        Ok(())
+    }
+
+    /// All methods of HTTP (RFC 9110, section 9, and RFC 5789) are allowed.
+    pub fn allow_any_method(self) -> Result<Cors<G>, AllocError>
+        ensures { IfOk result (λ cors. cors ≡ set_policy self (record self.policy { methods = nine_methods })) }
+    {
+        let mut cors = self;
+        let added = cors.add_any_method();
+        cors.after(added)
     }
 }

@@ -1,5 +1,6 @@
 //! What a line of a script says of its policy.
-ghost use Rattle.std.specs.Prelude.{◌≡◌, IfOk, map};
+ghost use Rattle.std.specs.Prelude.{◌≡◌, Err, IfOk, map};
+ghost use Rattle.cors_rules.specs.Building.{and_all_exposed, and_headers, and_methods};
 ghost use Rattle.script.specs.PolicyText.{and_line, is_permissive, words};
 
 use crate::policy::ScriptRule;
@@ -53,6 +54,56 @@ fn split_words<'a>(alloc: Global, text: &'a PlainText) -> Result<Vec<&'a str>, A
     text.as_str().split(' ').collect(alloc)
 }
 
+// Memory ran out, and the builder is let go.
+fn let_go(cors: Cors<ScriptRule>, error: AllocError) -> Result<Cors<ScriptRule>, AllocError>
+    ensures { result ≡ Err error }
+{
+    drop(cors);
+    Err(error)
+}
+
+// The builder with these methods.
+fn with_methods(
+    alloc: Global,
+    cors: Cors<ScriptRule>,
+    text: &PlainText,
+) -> Result<Cors<ScriptRule>, AllocError>
+    ensures { IfOk result (λ new. new ≡ and_methods cors (words text.now)) }
+{
+    match split_words(alloc, text) {
+        Ok(list) => cors.allowed_methods(&list),
+        Err(error) => let_go(cors, error),
+    }
+}
+
+// The builder with these request headers.
+fn with_headers(
+    alloc: Global,
+    cors: Cors<ScriptRule>,
+    text: &PlainText,
+) -> Result<Cors<ScriptRule>, AllocError>
+    ensures { IfOk result (λ new. new ≡ and_headers cors (words text.now)) }
+{
+    match split_words(alloc, text) {
+        Ok(list) => cors.allowed_headers(&list),
+        Err(error) => let_go(cors, error),
+    }
+}
+
+// The builder with these response headers.
+fn with_exposed(
+    alloc: Global,
+    cors: Cors<ScriptRule>,
+    text: &PlainText,
+) -> Result<Cors<ScriptRule>, AllocError>
+    ensures { IfOk result (λ new. new ≡ and_all_exposed cors (words text.now)) }
+{
+    match split_words(alloc, text) {
+        Ok(list) => cors.expose_headers(&list),
+        Err(error) => let_go(cors, error),
+    }
+}
+
 impl PolicyLine {
     /// Whether it starts from everything, so that no other line may stand before it.
     pub fn is_permissive(&self) -> bool
@@ -79,12 +130,12 @@ impl PolicyLine {
             PolicyLine::Origin(origin) => cors.allowed_origin(origin.as_str()),
             PolicyLine::Rule(rule) => cors.allowed_origin_fn(*rule),
             PolicyLine::AnyMethod => cors.allow_any_method(),
-            PolicyLine::Methods(text) => cors.allowed_methods(&split_words(alloc, text)?),
+            PolicyLine::Methods(text) => with_methods(alloc, cors, text),
             PolicyLine::AnyHeader => Ok(cors.allow_any_header()),
             PolicyLine::Header(name) => cors.allowed_header(name.as_str()),
-            PolicyLine::Headers(text) => cors.allowed_headers(&split_words(alloc, text)?),
+            PolicyLine::Headers(text) => with_headers(alloc, cors, text),
             PolicyLine::ExposeAny => Ok(cors.expose_any_header()),
-            PolicyLine::Expose(text) => cors.expose_headers(&split_words(alloc, text)?),
+            PolicyLine::Expose(text) => with_exposed(alloc, cors, text),
             PolicyLine::MaxAge(seconds) => Ok(cors.max_age(*seconds)),
             PolicyLine::Wildcard => Ok(cors.send_wildcard()),
             PolicyLine::Credentials => Ok(cors.supports_credentials()),

@@ -4,7 +4,7 @@ use Rattle.server_run.specs.Delivery.{ComesBack}
 use Rattle.server_run.specs.Listener.{IsTakenFrom, OnGot}
 use Rattle.server_run.specs.declared.listener.Accepted.{Accepted}
 use Rattle.server_run.specs.declared.listener.Accepted.TheVariants.{Got, NotYet, Skipped, Failed, Ended}
-use Rattle.server_run.proofs.Progress.{progress_none, progress_got, progress_kept}
+use Rattle.server_run.proofs.Progress.{progress_none, progress_ended, progress_got, progress_kept}
 use Rattle.server_run.proofs.Standing.{comes_back, same_link}
 use Rattle.server_run.proofs.accept.drain.Goals as goal
 
@@ -47,3 +47,19 @@ loop-preserved-in-Got g c =
     c.in-Got.link c.serve_link-finished.result.link c.serve_link-finished.result.outcome) (sym first) back in
     progress_got _ _ _ _ _ _ _ _ _ _ _ _ _ _ _ _ _ _ _ c.loop.invariant was inside c.make_room.ensures.same
     _ c.in-Got.link _ c.take.ensures.entry c.in-Got.ensures.link.0 c.in-Got.ensures.link.1 c.in-Got.ensures.small (λ has. let is = c.in-Got.ensures.ended.0 has in cc) refl refl refl same here
+
+pub loop-preserved-in-Ended : goal.loop-preserved-in-Ended
+loop-preserved-in-Ended g c =
+    let inside : c.loop.token < length c.loop.listeners.items = omega arith in
+    let was : slice_get c.loop.listeners.items c.loop.token ≡ Some c.index_mut.result.now = slice_get_read _ _ _ _ refl inside c.index_mut.ensures.value in
+    progress_ended _ _ _ _ _ _ _ _ _ _ _ _ _ _ _ _ _ _ _ c.loop.invariant was inside c.make_room.ensures.same c.in-Ended.ensures.link.0 c.in-Ended.ensures.link.1
+    (c.accept.ensures.ended.1 c.in-Ended.is)
+
+pub returns-clause-same_count : goal.returns-clause-same_count
+returns-clause-same_count g c = c.loop.invariant.as_many
+
+pub returns-clause-ended : goal.returns-clause-ended
+returns-clause-ended g c = c.loop.invariant.front
+
+pub returns-clause-others : goal.returns-clause-others
+returns-clause-others g c = c.loop.invariant.ahead

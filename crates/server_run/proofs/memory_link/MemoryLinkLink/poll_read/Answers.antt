@@ -69,3 +69,168 @@ invariant_of-self-in-Some-Fail-clause-failed_reads c =
     let current : slice_get link.reads.items link.step ≡ Some Fail = step_read _ _ _ _ _ c.deref.ensures.value found.3.0 found.1 c.in-Some-Fail.field-0-is in
     let more = counted_more is_read_fail link.reads.items link.step Fail current refl in
     omega (arith, link.failed_reads, more, c.saturating_add-self-in-Some-Fail.ensures)
+
+pub returns-in-Some-Give-clause-identity : goal.returns-in-Some-Give-clause-identity
+returns-in-Some-Give-clause-identity c = c.pass_used.ensures.identity
+
+pub returns-in-Some-Give-clause-written : goal.returns-in-Some-Give-clause-written
+returns-in-Some-Give-clause-written c = c.pass_used.ensures.written
+
+pub returns-in-Some-Give-clause-write_faults : goal.returns-in-Some-Give-clause-write_faults
+returns-in-Some-Give-clause-write_faults c = c.pass_used.ensures.write_faults
+
+pub returns-in-Some-Give-clause-write_waits : goal.returns-in-Some-Give-clause-write_waits
+returns-in-Some-Give-clause-write_waits c = c.pass_used.ensures.write_waits
+
+pub returns-in-Some-Give-clause-same_reads : goal.returns-in-Some-Give-clause-same_reads
+returns-in-Some-Give-clause-same_reads c = c.pass_used.ensures.reads
+
+pub returns-in-Some-Give-clause-same_writes : goal.returns-in-Some-Give-clause-same_writes
+returns-in-Some-Give-clause-same_writes c = c.pass_used.ensures.writes
+
+pub returns-in-Some-Give-clause-same_write_step : goal.returns-in-Some-Give-clause-same_write_step
+returns-in-Some-Give-clause-same_write_step c = c.pass_used.ensures.write_step
+
+pub returns-in-Some-Give-clause-armed : goal.returns-in-Some-Give-clause-armed
+returns-in-Some-Give-clause-armed c = tt
+
+pub returns-in-Some-Give-clause-kept : goal.returns-in-Some-Give-clause-kept
+returns-in-Some-Give-clause-kept c = λ fact h. h
+
+pub returns-in-Some-Give-clause-read_faults : goal.returns-in-Some-Give-clause-read_faults
+returns-in-Some-Give-clause-read_faults c = c.pass_used.ensures.read_faults
+
+pub returns-in-Some-Give-clause-read_waits : goal.returns-in-Some-Give-clause-read_waits
+returns-in-Some-Give-clause-read_waits c = c.pass_used.ensures.read_waits
+
+pub returns-in-Some-NotYet-clause-identity : goal.returns-in-Some-NotYet-clause-identity
+returns-in-Some-NotYet-clause-identity c = c.pass_used.ensures.identity
+
+pub returns-in-Some-NotYet-clause-written : goal.returns-in-Some-NotYet-clause-written
+returns-in-Some-NotYet-clause-written c = c.pass_used.ensures.written
+
+pub returns-in-Some-NotYet-clause-write_faults : goal.returns-in-Some-NotYet-clause-write_faults
+returns-in-Some-NotYet-clause-write_faults c = c.pass_used.ensures.write_faults
+
+pub returns-in-Some-NotYet-clause-write_waits : goal.returns-in-Some-NotYet-clause-write_waits
+returns-in-Some-NotYet-clause-write_waits c = c.pass_used.ensures.write_waits
+
+pub returns-in-Some-NotYet-clause-same_reads : goal.returns-in-Some-NotYet-clause-same_reads
+returns-in-Some-NotYet-clause-same_reads c = c.pass_used.ensures.reads
+
+pub returns-in-Some-NotYet-clause-same_writes : goal.returns-in-Some-NotYet-clause-same_writes
+returns-in-Some-NotYet-clause-same_writes c = c.pass_used.ensures.writes
+
+pub returns-in-Some-NotYet-clause-same_write_step : goal.returns-in-Some-NotYet-clause-same_write_step
+returns-in-Some-NotYet-clause-same_write_step c = c.pass_used.ensures.write_step
+
+pub returns-in-Some-NotYet-clause-armed : goal.returns-in-Some-NotYet-clause-armed
+returns-in-Some-NotYet-clause-armed c = rw c.yield_now.ensures.pending c.yield_now.ensures.armed
+
+pub returns-in-Some-NotYet-clause-kept : goal.returns-in-Some-NotYet-clause-kept
+returns-in-Some-NotYet-clause-kept c = c.yield_now.ensures.kept
+
+pub returns-in-Some-NotYet-clause-read_faults : goal.returns-in-Some-NotYet-clause-read_faults
+returns-in-Some-NotYet-clause-read_faults c = rw c.yield_now.ensures.pending c.pass_used.ensures.read_faults
+
+pub returns-in-Some-NotYet-clause-read_waits : goal.returns-in-Some-NotYet-clause-read_waits
+returns-in-Some-NotYet-clause-read_waits c = rw c.yield_now.ensures.pending (omega arith)
+
+pub returns-in-Some-Fail-clause-identity : goal.returns-in-Some-Fail-clause-identity
+returns-in-Some-Fail-clause-identity c = c.pass_used.ensures.identity
+
+pub returns-in-Some-Fail-clause-written : goal.returns-in-Some-Fail-clause-written
+returns-in-Some-Fail-clause-written c = c.pass_used.ensures.written
+
+pub returns-in-Some-Fail-clause-write_faults : goal.returns-in-Some-Fail-clause-write_faults
+returns-in-Some-Fail-clause-write_faults c = c.pass_used.ensures.write_faults
+
+pub returns-in-Some-Fail-clause-write_waits : goal.returns-in-Some-Fail-clause-write_waits
+returns-in-Some-Fail-clause-write_waits c = c.pass_used.ensures.write_waits
+
+pub returns-in-Some-Fail-clause-same_reads : goal.returns-in-Some-Fail-clause-same_reads
+returns-in-Some-Fail-clause-same_reads c = c.pass_used.ensures.reads
+
+pub returns-in-Some-Fail-clause-same_writes : goal.returns-in-Some-Fail-clause-same_writes
+returns-in-Some-Fail-clause-same_writes c = c.pass_used.ensures.writes
+
+pub returns-in-Some-Fail-clause-same_write_step : goal.returns-in-Some-Fail-clause-same_write_step
+returns-in-Some-Fail-clause-same_write_step c = c.pass_used.ensures.write_step
+
+pub returns-in-Some-Fail-clause-armed : goal.returns-in-Some-Fail-clause-armed
+returns-in-Some-Fail-clause-armed c = tt
+
+pub returns-in-Some-Fail-clause-kept : goal.returns-in-Some-Fail-clause-kept
+returns-in-Some-Fail-clause-kept c = λ fact h. h
+
+pub returns-in-Some-Fail-clause-read_faults : goal.returns-in-Some-Fail-clause-read_faults
+returns-in-Some-Fail-clause-read_faults c = omega arith
+
+pub returns-in-Some-Fail-clause-read_waits : goal.returns-in-Some-Fail-clause-read_waits
+returns-in-Some-Fail-clause-read_waits c = c.pass_used.ensures.read_waits
+
+pub returns-in-Some-Never-clause-identity : goal.returns-in-Some-Never-clause-identity
+returns-in-Some-Never-clause-identity c = c.pass_used.ensures.identity
+
+pub returns-in-Some-Never-clause-written : goal.returns-in-Some-Never-clause-written
+returns-in-Some-Never-clause-written c = c.pass_used.ensures.written
+
+pub returns-in-Some-Never-clause-write_faults : goal.returns-in-Some-Never-clause-write_faults
+returns-in-Some-Never-clause-write_faults c = c.pass_used.ensures.write_faults
+
+pub returns-in-Some-Never-clause-write_waits : goal.returns-in-Some-Never-clause-write_waits
+returns-in-Some-Never-clause-write_waits c = c.pass_used.ensures.write_waits
+
+pub returns-in-Some-Never-clause-same_reads : goal.returns-in-Some-Never-clause-same_reads
+returns-in-Some-Never-clause-same_reads c = c.pass_used.ensures.reads
+
+pub returns-in-Some-Never-clause-same_writes : goal.returns-in-Some-Never-clause-same_writes
+returns-in-Some-Never-clause-same_writes c = c.pass_used.ensures.writes
+
+pub returns-in-Some-Never-clause-same_write_step : goal.returns-in-Some-Never-clause-same_write_step
+returns-in-Some-Never-clause-same_write_step c = c.pass_used.ensures.write_step
+
+pub returns-in-Some-Never-clause-armed : goal.returns-in-Some-Never-clause-armed
+returns-in-Some-Never-clause-armed c = rw c.yield_now-in-Some-Never.ensures.pending c.yield_now-in-Some-Never.ensures.armed
+
+pub returns-in-Some-Never-clause-kept : goal.returns-in-Some-Never-clause-kept
+returns-in-Some-Never-clause-kept c = c.yield_now-in-Some-Never.ensures.kept
+
+pub returns-in-Some-Never-clause-read_faults : goal.returns-in-Some-Never-clause-read_faults
+returns-in-Some-Never-clause-read_faults c = rw c.yield_now-in-Some-Never.ensures.pending c.pass_used.ensures.read_faults
+
+pub returns-in-Some-Never-clause-read_waits : goal.returns-in-Some-Never-clause-read_waits
+returns-in-Some-Never-clause-read_waits c = rw c.yield_now-in-Some-Never.ensures.pending (omega arith)
+
+pub returns-in-None-clause-identity : goal.returns-in-None-clause-identity
+returns-in-None-clause-identity c = c.pass_used.ensures.identity
+
+pub returns-in-None-clause-written : goal.returns-in-None-clause-written
+returns-in-None-clause-written c = c.pass_used.ensures.written
+
+pub returns-in-None-clause-write_faults : goal.returns-in-None-clause-write_faults
+returns-in-None-clause-write_faults c = c.pass_used.ensures.write_faults
+
+pub returns-in-None-clause-write_waits : goal.returns-in-None-clause-write_waits
+returns-in-None-clause-write_waits c = c.pass_used.ensures.write_waits
+
+pub returns-in-None-clause-same_reads : goal.returns-in-None-clause-same_reads
+returns-in-None-clause-same_reads c = c.pass_used.ensures.reads
+
+pub returns-in-None-clause-same_writes : goal.returns-in-None-clause-same_writes
+returns-in-None-clause-same_writes c = c.pass_used.ensures.writes
+
+pub returns-in-None-clause-same_write_step : goal.returns-in-None-clause-same_write_step
+returns-in-None-clause-same_write_step c = c.pass_used.ensures.write_step
+
+pub returns-in-None-clause-armed : goal.returns-in-None-clause-armed
+returns-in-None-clause-armed c = tt
+
+pub returns-in-None-clause-kept : goal.returns-in-None-clause-kept
+returns-in-None-clause-kept c = λ fact h. h
+
+pub returns-in-None-clause-read_faults : goal.returns-in-None-clause-read_faults
+returns-in-None-clause-read_faults c = c.pass_used.ensures.read_faults
+
+pub returns-in-None-clause-read_waits : goal.returns-in-None-clause-read_waits
+returns-in-None-clause-read_waits c = c.pass_used.ensures.read_waits
