@@ -11,7 +11,7 @@ use futures::executor::block_on_queue;
 use futures::task::{Doorbell, Queue};
 use http1_plain::{Request, Response};
 use service_combine::ServiceFactoryExt;
-use service_core::{Service, ServiceFactory, apply, fn_service};
+use service_core::{Service, ServiceFactory, Transform, apply, fn_service};
 use std::alloc::{AllocError, AllocGlobal, Global};
 use std::random::RandomSource;
 use std::sync::Wait;
@@ -167,27 +167,29 @@ fn policy(alloc: Global) -> Result<Cors<NoRule>, AllocError> {
     Cors::default(alloc).allowed_origin("https://shop.example")
 }
 
-// Puts a factory's service under the policy, and asks for both answers.
-fn present_under<R: Wait, F>(
+// Puts a factory's service under a transform, and asks for both answers.
+fn present_under<R: Wait, T, F>(
     rt: &R,
     queue: &Queue,
     alloc: Global,
-    policy: Cors<NoRule>,
+    transform: T,
     factory: F,
 ) -> Result<Outcome, Failure>
 where
-    F: ServiceFactory<
+    F: ServiceFactory<Request, Config = (), InitError = AllocError, Service: Drop> + Drop,
+    T: Transform<
+        F::Service,
         Request,
-        Config = (),
         Response = Response,
-        Error = NoPage,
-        InitError = AllocError,
-        Service: Drop,
+        Error = CorsFault,
+        Transform: Drop,
+        InitError = CorsInitError,
     >
         + Drop,
-    requires { F.can_make factory }
+    requires transform { (service : F.Service) → F.Service.can_call service → T.can_make transform service }
+    requires factory { F.can_make factory }
 {
-    match apply(alloc, policy, factory) {
+    match apply(alloc, transform, factory) {
         Ok(chain) => present(rt, queue, alloc, chain),
         Err(_) => Err(Failure::Memory),
     }
