@@ -1,11 +1,13 @@
 //! The requests, which name what the policy was given last.
 ghost use Rattle.std.specs.Prelude.{◌≤◌};
 
-use crate::allowing::{header, method, origin};
+use crate::allowing::{Text, method, origin, two_headers};
 use crate::failure::Failure;
 use crate::kind::Kind;
 use http::method::Method;
-use http_header::{ACCESS_CONTROL_REQUEST_HEADERS, ACCESS_CONTROL_REQUEST_METHOD, ORIGIN};
+use http_header::{
+    ACCESS_CONTROL_REQUEST_HEADERS, ACCESS_CONTROL_REQUEST_METHOD, HeaderName, ORIGIN,
+};
 use http1_plain::{FieldFault, FieldValue, HeaderList, HttpVersion, Request, RequestHead};
 use service_core::{Octets, Peer};
 use std::alloc::{AllocError, Global};
@@ -28,49 +30,114 @@ fn value(alloc: Global, text: &str) -> Result<FieldValue, Failure> {
     }
 }
 
+// The same of a text that was made.
+fn value_of(alloc: Global, text: &Text) -> Result<FieldValue, Failure> {
+    match text {
+        Ok(text) => value(alloc, text),
+        Err(_) => Err(Failure::Memory),
+    }
+}
+
 // A request with no body for `/`.
 fn bare(alloc: Global, method: Method, headers: HeaderList) -> Result<Request, AllocError> {
-    Ok(Request {
-        head: RequestHead {
-            method,
-            target: Octets::of(alloc, b"/")?,
-            version: HttpVersion::Http11,
-            headers,
-        },
-        body: Octets::new(alloc),
-        peer: Peer::Local,
-    })
+    match Octets::of(alloc, b"/") {
+        Ok(target) => Ok(Request {
+            head: RequestHead {
+                method,
+                target,
+                version: HttpVersion::Http11,
+                headers,
+            },
+            body: Octets::new(alloc),
+            peer: Peer::Local,
+        }),
+        Err(error) => Err(error),
+    }
+}
+
+// The list goes on with a copy of the value.
+fn append(
+    headers: &mut HeaderList,
+    name: HeaderName,
+    value: &FieldValue,
+) -> Result<(), AllocError> {
+    match value.copy() {
+        Ok(value) => headers.append(name, value),
+        Err(error) => Err(error),
+    }
 }
 
 impl Asked {
+    // By its origin and its method, with the header that has the number, and the one in the middle.
+    fn by(
+        alloc: Global,
+        kind: Kind,
+        named: (FieldValue, FieldValue),
+        last: u64,
+    ) -> Result<Asked, Failure> {
+        match value_of(alloc, &two_headers(alloc, last, last / 2)) {
+            Ok(headers) => Ok(Asked {
+                kind,
+                origin: named.0,
+                method: named.1,
+                headers,
+            }),
+            Err(failure) => Err(failure),
+        }
+    }
+
+    // By its origin, with what has the number.
+    fn of_origin(
+        alloc: Global,
+        kind: Kind,
+        origin: FieldValue,
+        last: u64,
+    ) -> Result<Asked, Failure> {
+        match value_of(alloc, &method(alloc, last)) {
+            Ok(method) => Asked::by(alloc, kind, (origin, method), last),
+            Err(failure) => Err(failure),
+        }
+    }
+
     /// For a policy of as many origins, methods and headers: the last of each, and the header in the middle.
     pub fn new(alloc: Global, kind: Kind, count: u64) -> Result<Asked, Failure>
         requires { 1 ≤ count }
     {
         let last = count - 1;
-        let headers = format!(in alloc; "{}, {}", header(alloc, last)?, header(alloc, last / 2)?)?;
-        Ok(Asked {
-            kind,
-            origin: value(alloc, &origin(alloc, last)?)?,
-            method: value(alloc, &method(alloc, last)?)?,
-            headers: value(alloc, &headers)?,
-        })
+        match value_of(alloc, &origin(alloc, last)) {
+            Ok(origin) => Asked::of_origin(alloc, kind, origin, last),
+            Err(failure) => Err(failure),
+        }
+    }
+
+    // The list goes on with the origin of a page.
+    fn put_origin(&self, headers: &mut HeaderList) -> Result<(), AllocError> {
+        append(headers, ORIGIN, &self.origin)
+    }
+
+    // The list goes on with the origin of a page, and the method and the headers that it asks for.
+    fn put_all(&self, headers: &mut HeaderList) -> Result<(), AllocError> {
+        self.put_origin(headers)?;
+        append(headers, ACCESS_CONTROL_REQUEST_METHOD, &self.method)?;
+        append(headers, ACCESS_CONTROL_REQUEST_HEADERS, &self.headers)
     }
 
     // A page of the origin reads `/`.
     fn simple(&self, alloc: Global) -> Result<Request, AllocError> {
         let mut headers = HeaderList::new(alloc);
-        headers.append(ORIGIN, self.origin.copy()?)?;
-        bare(alloc, Method::GET, headers)
+        match self.put_origin(&mut headers) {
+            Ok(()) => bare(alloc, Method::GET, headers),
+            Err(error) => Err(error),
+        }
     }
 
     // A page of the origin asks whether it may send the method with the headers.
     fn preflight(&self, alloc: Global) -> Result<Request, AllocError> {
         let mut headers = HeaderList::new(alloc);
-        headers.append(ORIGIN, self.origin.copy()?)?;
-        headers.append(ACCESS_CONTROL_REQUEST_METHOD, self.method.copy()?)?;
-        headers.append(ACCESS_CONTROL_REQUEST_HEADERS, self.headers.copy()?)?;
-        bare(alloc, Method::OPTIONS, headers)
+        match self.put_all(&mut headers) {
+            Ok(()) => bare(alloc, Method::OPTIONS, headers),
+            Err(error) => Err(error),
+        }
     }
 
     /// The next request.

@@ -3,7 +3,8 @@ ghost use Rattle.std.specs.Prelude.{⊤};
 ghost use Rattle.service_core.specs.Meaning.{GivesOnly};
 
 use crate::inner::{Failed, Inner};
-use cors_answer::Cors;
+use crate::shown::holds;
+use cors_answer::{Cors, CorsInitError};
 use cors_policy::NoRule;
 use futures::Future;
 use futures::task::Poll;
@@ -52,18 +53,31 @@ impl ServiceFactory<Request> for Maker {
     }
 }
 
+fn is_service<S: Drop, E: Drop>(made: Result<S, E>) -> Result<bool, E> {
+    match made {
+        Ok(service) => {
+            drop(service);
+            Ok(true)
+        }
+        Err(error) => Err(error),
+    }
+}
+
+fn is_made<S: Drop, E: Drop>(made: Poll<Result<S, E>>) -> Result<bool, E> {
+    match made {
+        Poll::Ready(made) => is_service(made),
+        Poll::Pending => Ok(false),
+    }
+}
+
 // Whether a factory makes a service at once.
 fn makes<F>(task: &MockTask, factory: F) -> Result<bool, F::InitError>
 where
-    F: ServiceFactory<Request, Config = (), Service: Drop> + Drop,
+    F: ServiceFactory<Request, Config = (), Service: Drop, InitError: Drop> + Drop,
     requires { F.can_make factory }
 {
     let mut future = factory.new_service(());
-    match task.poll(&mut future) {
-        Poll::Ready(Ok(_)) => Ok(true),
-        Poll::Ready(Err(error)) => Err(error),
-        Poll::Pending => Ok(false),
-    }
+    is_made(task.poll(&mut future))
 }
 
 // Whether a factory under a transform makes a service at once.
@@ -78,15 +92,30 @@ where
         + Drop,
     requires { (service : _) → T.can_make transform service }
 {
-    let wrapped = apply(alloc, transform, factory)?;
-    makes(task, wrapped)
+    match apply(alloc, transform, factory) {
+        Ok(wrapped) => makes(task, wrapped),
+        Err(error) => Err(T::InitError::from(error)),
+    }
+}
+
+fn default_makes(task: &MockTask, alloc: Global) -> Result<bool, CorsInitError> {
+    let policy: Cors<NoRule> = Cors::default(alloc);
+    makes_under(task, alloc, policy, Maker { alloc })
+}
+
+// Whether a middleware is made under the default policy.
+fn default_is_made(task: &MockTask, alloc: Global) -> Result<bool, AllocError> {
+    match default_makes(task, alloc) {
+        Ok(is_made) => Ok(is_made),
+        Err(CorsInitError::Config(_)) => Ok(false),
+        Err(CorsInitError::Memory) => Err(AllocError),
+    }
 }
 
 #[test]
 fn a_default_policy_makes_a_middleware(rt: HostRuntime) -> Result<(), Fail> {
     let task = MockTask::new(&rt)?;
-    let alloc = rt.alloc();
-    let policy: Cors<NoRule> = Cors::default(alloc);
-    assert!(rt; makes_under(&task, alloc, policy, Maker { alloc })?);
-    Ok(())
+    let shown = default_is_made(&task, rt.alloc());
+    drop(task);
+    holds(&rt, shown)
 }

@@ -1,6 +1,7 @@
 //! Requests are made, and what answers them is compared.
 use crate::building::{Call, built};
 use crate::inner::Inner;
+use crate::shown::holds;
 use cors_answer::{Cors, CorsFault, CorsInitError, CorsMiddleware};
 use cors_policy::OriginRule;
 use futures::task::Poll;
@@ -12,6 +13,7 @@ use http1_plain::{
 };
 use service_core::{Octets, Peer, Service, Transform};
 use std::alloc::{AllocError, AllocGlobal, Global};
+use std::process::Abort;
 use std::random::RandomSource;
 use std::test::Fail;
 
@@ -44,14 +46,18 @@ fn put_named(
     name: HeaderName,
     value: &str,
 ) -> Result<(), AllocError> {
-    let value = value_of(alloc, value)?;
-    append(list, name, value)
+    match value_of(alloc, value) {
+        Ok(value) => append(list, name, value),
+        Err(error) => Err(error),
+    }
 }
 
 // The list goes on with this header.
 fn put(list: &mut HeaderList, alloc: Global, name: &str, value: &str) -> Result<(), AllocError> {
-    let name = name_of(alloc, name)?;
-    put_named(list, alloc, name, value)
+    match name_of(alloc, name) {
+        Ok(name) => put_named(list, alloc, name, value),
+        Err(error) => Err(error),
+    }
 }
 
 /// A list of these headers.
@@ -63,22 +69,40 @@ pub(crate) fn list_of(alloc: Global, fields: &[(&str, &str)]) -> Result<HeaderLi
     Ok(list)
 }
 
+// A head for `/` with the headers.
+fn head_with(
+    alloc: Global,
+    method: Method,
+    headers: HeaderList,
+) -> Result<RequestHead, AllocError> {
+    match Octets::of(alloc, b"/") {
+        Ok(target) => Ok(RequestHead {
+            method,
+            target,
+            version: HttpVersion::Http11,
+            headers,
+        }),
+        Err(error) => Err(error),
+    }
+}
+
 /// A head for `/`.
 pub(crate) fn head(alloc: Global, asked: Asked) -> Result<RequestHead, AllocError> {
-    Ok(RequestHead {
-        method: asked.0,
-        target: Octets::of(alloc, b"/")?,
-        version: HttpVersion::Http11,
-        headers: list_of(alloc, asked.1)?,
-    })
+    match list_of(alloc, asked.1) {
+        Ok(headers) => head_with(alloc, asked.0, headers),
+        Err(error) => Err(error),
+    }
 }
 
 fn request(alloc: Global, asked: Asked) -> Result<Request, AllocError> {
-    Ok(Request {
-        head: head(alloc, asked)?,
-        body: Octets::new(alloc),
-        peer: Peer::Local,
-    })
+    match head(alloc, asked) {
+        Ok(head) => Ok(Request {
+            head,
+            body: Octets::new(alloc),
+            peer: Peer::Local,
+        }),
+        Err(error) => Err(error),
+    }
 }
 
 /// What a future of the middleware gives.
@@ -116,11 +140,11 @@ fn response_of(polled: Poll<Answer>) -> Result<Option<Response>, AllocError> {
     }
 }
 
+/// A service under a policy, or why there is none.
+pub(crate) type Made<G> = Result<CorsMiddleware<Inner, G>, CorsInitError>;
+
 /// The service under the policy.
-pub(crate) fn service_under<G: OriginRule>(
-    cors: &Cors<G>,
-    inner: Inner,
-) -> Result<CorsMiddleware<Inner, G>, CorsInitError> {
+pub(crate) fn service_under<G: OriginRule>(cors: &Cors<G>, inner: Inner) -> Made<G> {
     cors.new_transform(inner).into_inner()
 }
 
@@ -131,14 +155,28 @@ fn no_service(error: &CorsInitError) -> Result<Option<Response>, AllocError> {
     }
 }
 
-// The response of the service, or nothing where there is none.
-fn response_by<G: OriginRule>(
+// The response of the service.
+fn response_of_service<G: OriginRule>(
     task: &MockTask,
-    service: &Result<CorsMiddleware<Inner, G>, CorsInitError>,
-    request: Request,
+    alloc: Global,
+    service: &CorsMiddleware<Inner, G>,
+    asked: Asked,
+) -> Result<Option<Response>, AllocError> {
+    match request(alloc, asked) {
+        Ok(request) => response_of(polled(task, service, request)),
+        Err(error) => Err(error),
+    }
+}
+
+/// The response of the service, or nothing where there is none.
+pub(crate) fn response_by<G: OriginRule>(
+    task: &MockTask,
+    alloc: Global,
+    service: &Made<G>,
+    asked: Asked,
 ) -> Result<Option<Response>, AllocError> {
     match service {
-        Ok(service) => response_of(polled(task, service, request)),
+        Ok(service) => response_of_service(task, alloc, service, asked),
         Err(error) => no_service(error),
     }
 }
@@ -150,8 +188,11 @@ pub(crate) fn response_under<G: OriginRule>(
     cors: &Cors<G>,
     asked: Asked,
 ) -> Result<Option<Response>, AllocError> {
-    let request = request(inner.alloc, asked)?;
-    response_by(task, &service_under(cors, inner), request)
+    let alloc = inner.alloc;
+    let service = service_under(cors, inner);
+    let response = response_by(task, alloc, &service, asked);
+    drop(service);
+    response
 }
 
 fn written(alloc: Global, response: &Response) -> Result<Octets, AllocError> {
@@ -185,8 +226,26 @@ fn text(alloc: Global, parts: &[&str]) -> Result<Octets, AllocError> {
     Ok(out)
 }
 
+fn is_written(alloc: Global, response: &Response, text: &Octets) -> Result<bool, AllocError> {
+    match written(alloc, response) {
+        Ok(written) => {
+            let shown = written == *text;
+            drop(written);
+            Ok(shown)
+        }
+        Err(error) => Err(error),
+    }
+}
+
 fn is_text(alloc: Global, response: &Response, parts: &[&str]) -> Result<bool, AllocError> {
-    Ok(written(alloc, response)? == text(alloc, parts)?)
+    match text(alloc, parts) {
+        Ok(text) => {
+            let shown = is_written(alloc, response, &text);
+            drop(text);
+            shown
+        }
+        Err(error) => Err(error),
+    }
 }
 
 fn is_some_text(
@@ -197,6 +256,17 @@ fn is_some_text(
     match response {
         Some(response) => is_text(alloc, response, parts),
         None => Ok(false),
+    }
+}
+
+fn is_text_of_answer(
+    alloc: Global,
+    answer: &Result<Option<Response>, AllocError>,
+    parts: &[&str],
+) -> Result<bool, AllocError> {
+    match answer {
+        Ok(response) => is_some_text(alloc, response, parts),
+        Err(error) => Err(*error),
     }
 }
 
@@ -212,7 +282,24 @@ pub(crate) fn is_answered<G: OriginRule>(
         alloc,
         is_empty: false,
     };
-    is_some_text(alloc, &response_under(task, inner, cors, asked)?, parts)
+    let answer = response_under(task, inner, cors, asked);
+    let shown = is_text_of_answer(alloc, &answer, parts);
+    drop(answer);
+    shown
+}
+
+/// The same under a builder that was made.
+pub(crate) fn is_answered_under<G: OriginRule>(
+    task: &MockTask,
+    alloc: Global,
+    cors: &Result<Cors<G>, AllocError>,
+    asked: Asked,
+    parts: &[&str],
+) -> Result<bool, AllocError> {
+    match cors {
+        Ok(cors) => is_answered(task, alloc, cors, asked, parts),
+        Err(error) => Err(*error),
+    }
 }
 
 fn are_parts(
@@ -222,14 +309,19 @@ fn are_parts(
     asked: Asked,
     parts: &[&str],
 ) -> Result<bool, AllocError> {
-    is_answered(task, alloc, &built(alloc, calls)?, asked, parts)
+    let cors = built(alloc, calls);
+    let shown = is_answered_under(task, alloc, &cors, asked, parts);
+    drop(cors);
+    shown
 }
 
-/// Whether these parts answer a request under a policy without rules.
-pub(crate) fn answers<R>(rt: &R, calls: &[Call], asked: Asked, parts: &[&str]) -> Result<bool, Fail>
+/// These parts answer a request under a policy without rules.
+pub(crate) fn answers<R>(rt: &R, calls: &[Call], asked: Asked, parts: &[&str]) -> Result<(), Fail>
 where
-    R: RandomSource + AllocGlobal,
+    R: RandomSource + AllocGlobal + Abort,
 {
     let task = MockTask::new(rt)?;
-    Ok(are_parts(&task, rt.alloc(), calls, asked, parts)?)
+    let shown = are_parts(&task, rt.alloc(), calls, asked, parts);
+    drop(task);
+    holds(rt, shown)
 }

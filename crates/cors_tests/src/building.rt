@@ -70,13 +70,16 @@ fn continued<G: OriginRule>(cors: Cors<G>, call: Call) -> Result<Cors<G>, AllocE
 // The builder after the call.
 fn called<G: OriginRule>(alloc: Global, cors: Cors<G>, call: Call) -> Result<Cors<G>, AllocError> {
     match call {
-        Call::Permissive => Cors::permissive(alloc),
+        Call::Permissive => {
+            drop(cors);
+            Cors::permissive(alloc)
+        }
         _ => continued(cors, call),
     }
 }
 
-/// The builder after the calls.
-pub(crate) fn after<G: OriginRule>(
+// The builder after the calls.
+fn after<G: OriginRule>(
     alloc: Global,
     mut cors: Cors<G>,
     calls: &[Call],
@@ -87,7 +90,22 @@ pub(crate) fn after<G: OriginRule>(
     Ok(cors)
 }
 
-/// A builder without rules after the calls.
-pub(crate) fn built(alloc: Global, calls: &[Call]) -> Result<Cors<NoRule>, AllocError> {
+/// A builder with this rule, after the calls.
+pub(crate) fn ruled<G: OriginRule>(
+    alloc: Global,
+    rule: G,
+    calls: &[Call],
+) -> Result<Cors<G>, AllocError> {
+    match Cors::default(alloc).allowed_origin_fn(rule) {
+        Ok(cors) => after(alloc, cors, calls),
+        Err(error) => Err(error),
+    }
+}
+
+/// A builder without rules that was made.
+pub(crate) type Built = Result<Cors<NoRule>, AllocError>;
+
+/// A builder without rules after the calls. Who asks it hands it to `drop`, where its end is proved once for all.
+pub(crate) fn built(alloc: Global, calls: &[Call]) -> Built {
     after(alloc, Cors::default(alloc), calls)
 }

@@ -1,69 +1,88 @@
 //! Copies of a service under a policy.
-use crate::asking::{Asked, head};
-use crate::building::Call::{self, Block, Origin};
+use crate::asking::{Asked, Made, response_by, service_under};
+use crate::building::Call::{Block, Origin};
 use crate::building::built;
+use crate::empty_answers::has_answer_status;
 use crate::inner::Inner;
-use cors_answer::{CorsFault, CorsInitError, CorsMiddleware};
+use crate::shown::hold;
+use cors_answer::{Cors, CorsMiddleware};
 use cors_policy::NoRule;
-use futures::task::Poll;
 use futures::test::MockTask;
 use http::method::Method;
-use http1_plain::Request;
-use service_core::{Octets, Peer, Service, Transform};
 use std::alloc::{AllocError, Global};
 use std::test::Fail;
 
-type Kept = CorsMiddleware<Inner, NoRule>;
+// A copy of the service.
+fn copied(service: &CorsMiddleware<Inner, NoRule>) -> Made<NoRule> {
+    match service.clone() {
+        Ok(copy) => Ok(copy),
+        Err(error) => Err(error.into()),
+    }
+}
 
-// The service under the policy, or nothing where the policy is refused.
-fn kept(alloc: Global, calls: &[Call]) -> Result<Option<Kept>, AllocError> {
-    let cors = built(alloc, calls)?;
+fn copy_of(service: &Made<NoRule>) -> Made<NoRule> {
+    match service {
+        Ok(service) => copied(service),
+        Err(error) => Err(*error),
+    }
+}
+
+// A copy of the service under the policy, which is dropped.
+fn copy_under(alloc: Global, cors: &Cors<NoRule>) -> Made<NoRule> {
     let inner = Inner {
         alloc,
         is_empty: false,
     };
-    match cors.new_transform(inner).into_inner() {
-        Ok(service) => Ok(Some(service)),
-        Err(CorsInitError::Config(_)) => Ok(None),
-        Err(CorsInitError::Memory) => Err(AllocError),
-    }
+    let service = service_under(cors, inner);
+    let copy = copy_of(&service);
+    drop(service);
+    copy
 }
 
-// Whether a service answers a request by this status.
-fn gives(
+fn answer_has_status(
     task: &MockTask,
     alloc: Global,
-    service: &Kept,
+    service: &Made<NoRule>,
     row: (Asked, u16),
 ) -> Result<bool, AllocError> {
-    let request = Request {
-        head: head(alloc, row.0)?,
-        body: Octets::new(alloc),
-        peer: Peer::Local,
-    };
-    let mut future = service.call(request);
-    match task.poll(&mut future) {
-        Poll::Ready(Ok(response)) => Ok(response.status() == row.1),
-        Poll::Ready(Err(CorsFault::Memory)) => Err(AllocError),
-        _ => Ok(false),
+    let answer = response_by(task, alloc, service, row.0);
+    let shown = has_answer_status(&answer, row.1);
+    drop(answer);
+    shown
+}
+
+// Whether the copy of a service under the policy, left alone, answers a request by this status.
+fn copy_gives(
+    task: &MockTask,
+    alloc: Global,
+    cors: &Cors<NoRule>,
+    row: (Asked, u16),
+) -> Result<bool, AllocError> {
+    let copy = copy_under(alloc, cors);
+    let shown = answer_has_status(task, alloc, &copy, row);
+    drop(copy);
+    shown
+}
+
+fn copy_gives_under(
+    task: &MockTask,
+    alloc: Global,
+    cors: &Result<Cors<NoRule>, AllocError>,
+    row: (Asked, u16),
+) -> Result<bool, AllocError> {
+    match cors {
+        Ok(cors) => copy_gives(task, alloc, cors, row),
+        Err(error) => Err(*error),
     }
 }
 
-// A copy of the service, which is dropped.
-fn copied(service: Option<Kept>) -> Result<Option<Kept>, AllocError> {
-    match service {
-        None => Ok(None),
-        Some(service) => Ok(Some(service.clone()?)),
-    }
-}
-
-// Whether the copy of a service under a policy, left alone, answers a request by this status.
-fn copy_gives(task: &MockTask, alloc: Global, row: (Asked, u16)) -> Result<bool, AllocError> {
-    let service = kept(alloc, &[Origin("https://a.example"), Block])?;
-    match copied(service)? {
-        None => Ok(false),
-        Some(copy) => gives(task, alloc, &copy, row),
-    }
+// The same under a policy that blocks all origins but one.
+fn blocks(task: &MockTask, alloc: Global, row: (Asked, u16)) -> Result<bool, AllocError> {
+    let calls = [Origin("https://a.example"), Block];
+    let cors = built(alloc, &calls);
+    let shown = copy_gives_under(task, alloc, &cors, row);
+    drop(cors);
+    shown
 }
 
 #[test]
@@ -71,8 +90,11 @@ fn a_copy_answers_under_the_same_policy(rt: HostRuntime) -> Result<(), Fail> {
     let task = MockTask::new(&rt)?;
     let alloc = rt.alloc();
     let granted = [("Origin", "https://a.example")];
-    assert!(rt; copy_gives(&task, alloc, ((Method::GET, &granted), 200))?);
     let other = [("Origin", "https://b.example")];
-    assert!(rt; copy_gives(&task, alloc, ((Method::GET, &other), 400))?);
-    Ok(())
+    let shown = [
+        blocks(&task, alloc, ((Method::GET, &granted), 200)),
+        blocks(&task, alloc, ((Method::GET, &other), 400)),
+    ];
+    drop(task);
+    hold(&rt, &shown)
 }

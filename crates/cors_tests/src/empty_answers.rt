@@ -3,8 +3,9 @@ ghost use Rattle.std.specs.Prelude.{true};
 
 use crate::asking::response_under;
 use crate::building::Call::{AnyHeader, AnyMethod, NoPreflight};
-use crate::building::{Call, after};
+use crate::building::{Call, ruled};
 use crate::inner::Inner;
+use crate::shown::{every, hold};
 use cors_answer::Cors;
 use cors_policy::OriginRule;
 use futures::test::MockTask;
@@ -25,21 +26,22 @@ impl OriginRule for Always {
     }
 }
 
-// Every origin by a rule.
-fn everyone(alloc: Global) -> Result<Cors<Always>, AllocError> {
-    let cors: Cors<Always> = Cors::default(alloc);
-    cors.allowed_origin_fn(Always)
-}
-
-// Every origin by a rule, and what the calls allow.
-fn everyone_after(alloc: Global, calls: &[Call]) -> Result<Cors<Always>, AllocError> {
-    after(alloc, everyone(alloc)?, calls)
-}
-
-fn is_of_status(response: &Option<Response>, status: u16) -> bool {
+/// Whether there is a response of this status.
+pub(crate) fn is_of_status(response: &Option<Response>, status: u16) -> bool {
     match response {
         Some(response) => response.status() == status,
         None => false,
+    }
+}
+
+/// The same of an answer.
+pub(crate) fn has_answer_status(
+    answer: &Result<Option<Response>, AllocError>,
+    status: u16,
+) -> Result<bool, AllocError> {
+    match answer {
+        Ok(response) => Ok(is_of_status(response, status)),
+        Err(error) => Err(*error),
     }
 }
 
@@ -58,27 +60,44 @@ fn gives_status(
         alloc,
         is_empty: true,
     };
-    let response = response_under(task, inner, cors, (row.0, &fields))?;
-    Ok(is_of_status(&response, row.1))
+    let answer = response_under(task, inner, cors, (row.0, &fields));
+    let shown = has_answer_status(&answer, row.1);
+    drop(answer);
+    shown
 }
 
-// Whether the answer has the status.
+fn gives_status_under(
+    task: &MockTask,
+    alloc: Global,
+    cors: &Result<Cors<Always>, AllocError>,
+    row: (Method, u16),
+) -> Result<bool, AllocError> {
+    match cors {
+        Ok(cors) => gives_status(task, alloc, cors, row),
+        Err(error) => Err(*error),
+    }
+}
+
+// Whether the answer has the status where every origin is allowed by a rule, and what the calls allow.
 fn has_status(
     task: &MockTask,
     alloc: Global,
     calls: &[Call],
     row: (Method, u16),
 ) -> Result<bool, AllocError> {
-    gives_status(task, alloc, &everyone_after(alloc, calls)?, row)
+    let cors = ruled(alloc, Always, calls);
+    let shown = gives_status_under(task, alloc, &cors, row);
+    drop(cors);
+    shown
 }
 
 // Whether only a preflight is answered here.
 fn answers_preflights(task: &MockTask, alloc: Global) -> Result<bool, AllocError> {
     let calls = [AnyMethod, AnyHeader];
-    Ok(
-        has_status(task, alloc, &calls, (Method::OPTIONS, 200))?
-            && has_status(task, alloc, &calls, (Method::GET, 204))?,
-    )
+    every(&[
+        has_status(task, alloc, &calls, (Method::OPTIONS, 200)),
+        has_status(task, alloc, &calls, (Method::GET, 204)),
+    ])
 }
 
 // Whether a preflight is handed on where that is disabled.
@@ -90,7 +109,11 @@ fn hands_preflights_on(task: &MockTask, alloc: Global) -> Result<bool, AllocErro
 #[test]
 fn a_preflight_is_answered_here_unless_that_is_disabled(rt: HostRuntime) -> Result<(), Fail> {
     let task = MockTask::new(&rt)?;
-    assert!(rt; answers_preflights(&task, rt.alloc())?);
-    assert!(rt; hands_preflights_on(&task, rt.alloc())?);
-    Ok(())
+    let alloc = rt.alloc();
+    let shown = [
+        answers_preflights(&task, alloc),
+        hands_preflights_on(&task, alloc),
+    ];
+    drop(task);
+    hold(&rt, &shown)
 }

@@ -2,8 +2,9 @@
 use crate::building::Call::{self, Origin};
 use crate::building::built;
 use crate::inner::Inner;
-use cors_answer::CorsInitError;
-use cors_policy::ConfigError;
+use crate::shown::{hold, not};
+use cors_answer::{Cors, CorsInitError};
+use cors_policy::{ConfigError, NoRule};
 use futures::Future;
 use futures::task::Poll;
 use futures::test::MockTask;
@@ -21,6 +22,13 @@ fn renamed(error: CorsInitError) -> CorsInitError {
     }
 }
 
+fn fault_in<S: Drop, E: Drop>(made: Poll<Result<S, E>>) -> Option<E> {
+    match made {
+        Poll::Ready(made) => made.err(),
+        Poll::Pending => None,
+    }
+}
+
 // Why a transform puts nothing over the service, or nothing where it does.
 fn fault_of<T>(task: &MockTask, alloc: Global, transform: T) -> Option<T::InitError>
 where
@@ -31,10 +39,7 @@ where
         alloc,
         is_empty: false,
     });
-    match task.poll(&mut future) {
-        Poll::Ready(Err(error)) => Some(error),
-        _ => None,
-    }
+    fault_in(task.poll(&mut future))
 }
 
 // The same, where a closure changes what comes in place of a service.
@@ -51,24 +56,43 @@ where
     requires f { F.IsAlwaysCallable parts.1 }
 {
     let (transform, f) = parts;
-    let changed = transform.map_init_err(alloc, f)?;
-    Ok(fault_of(task, alloc, changed))
+    match transform.map_init_err(alloc, f) {
+        Ok(changed) => Ok(fault_of(task, alloc, changed)),
+        Err(error) => Err(error),
+    }
 }
 
-// Whether the error of a policy, changed so, is that no method was a method, or there is none.
-fn is_changed(task: &MockTask, alloc: Global, calls: &[Call]) -> Result<bool, AllocError> {
-    let cors = built(alloc, calls)?;
-    match changed_fault(task, alloc, (cors, renamed))? {
+fn is_renamed(fault: Option<CorsInitError>) -> Result<bool, AllocError> {
+    match fault {
         None => Ok(false),
         Some(CorsInitError::Memory) => Err(AllocError),
         Some(CorsInitError::Config(error)) => Ok(error == ConfigError::BadMethod),
     }
 }
 
+fn is_changed_of(task: &MockTask, alloc: Global, cors: Cors<NoRule>) -> Result<bool, AllocError> {
+    match changed_fault(task, alloc, (cors, renamed)) {
+        Ok(fault) => is_renamed(fault),
+        Err(error) => Err(error),
+    }
+}
+
+// Whether the error of a policy, changed so, is that no method was a method, or there is none.
+fn is_changed(task: &MockTask, alloc: Global, calls: &[Call]) -> Result<bool, AllocError> {
+    match built(alloc, calls) {
+        Ok(cors) => is_changed_of(task, alloc, cors),
+        Err(error) => Err(error),
+    }
+}
+
 #[test]
 fn a_refused_policy_tells_why_in_other_words(rt: HostRuntime) -> Result<(), Fail> {
     let task = MockTask::new(&rt)?;
-    assert!(rt; is_changed(&task, rt.alloc(), &[Origin("*")])?);
-    assert!(rt; !is_changed(&task, rt.alloc(), &[])?);
-    Ok(())
+    let alloc = rt.alloc();
+    let shown = [
+        is_changed(&task, alloc, &[Origin("*")]),
+        not(is_changed(&task, alloc, &[])),
+    ];
+    drop(task);
+    hold(&rt, &shown)
 }

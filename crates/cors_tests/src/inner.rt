@@ -5,8 +5,8 @@ ghost use Rattle.service_core.specs.Meaning.{GivesOnly};
 use crate::asking::list_of;
 use futures::Future;
 use futures::task::{Context, Poll};
-use http1_plain::{ErrorResponse, Request, Response};
-use service_core::{Ready, Service, err, ok};
+use http1_plain::{ErrorResponse, HeaderList, Request, Response};
+use service_core::{Ready, Service, ready};
 use std::alloc::{AllocError, Global};
 
 /// 200 and `Hello world!` as plain text to every request, or else 204.
@@ -28,15 +28,29 @@ impl ErrorResponse for Failed {
     }
 }
 
+fn plain_text(alloc: Global) -> Result<HeaderList, AllocError> {
+    list_of(alloc, &[("content-type", "text/plain")])
+}
+
 // The response, as plain text.
 fn with_type(alloc: Global, mut response: Response) -> Result<Response, AllocError> {
-    response.set_headers(list_of(alloc, &[("content-type", "text/plain")])?);
-    Ok(response)
+    match plain_text(alloc) {
+        Ok(headers) => {
+            response.set_headers(headers);
+            Ok(response)
+        }
+        Err(error) => {
+            drop(response);
+            Err(error)
+        }
+    }
 }
 
 fn hello(alloc: Global) -> Result<Response, AllocError> {
-    let response = Response::text(alloc, 200, "Hello world!")?;
-    with_type(alloc, response)
+    match Response::text(alloc, 200, "Hello world!") {
+        Ok(response) => with_type(alloc, response),
+        Err(error) => Err(error),
+    }
 }
 
 fn reply(alloc: Global, is_empty: bool) -> Result<Response, AllocError> {
@@ -44,6 +58,13 @@ fn reply(alloc: Global, is_empty: bool) -> Result<Response, AllocError> {
         Ok(Response::new(alloc, 204))
     } else {
         hello(alloc)
+    }
+}
+
+fn given(reply: Result<Response, AllocError>) -> Result<Response, Failed> {
+    match reply {
+        Ok(response) => Ok(response),
+        Err(_) => Err(Failed),
     }
 }
 
@@ -67,9 +88,6 @@ impl Service<Request> for Inner {
     }
 
     fn call(&self, _req: Request) -> Ready<Result<Response, Failed>> {
-        match reply(self.alloc, self.is_empty) {
-            Ok(response) => ok(response),
-            Err(_) => err(Failed),
-        }
+        ready(given(reply(self.alloc, self.is_empty)))
     }
 }

@@ -12,6 +12,8 @@ mod copy_tests;
 #[cfg(test)]
 mod empty_answers;
 #[cfg(test)]
+mod equalities;
+#[cfg(test)]
 mod init_error_tests;
 #[cfg(test)]
 mod inner;
@@ -23,3 +25,5 @@ mod policies;
 mod requests;
 #[cfg(test)]
 mod sets;
+#[cfg(test)]
+mod shown;

@@ -2,22 +2,27 @@
 ghost use Rattle.std.specs.Prelude.{nat_eq, codes};
 ghost use Rattle.std.specs.List.{ends_with};
 
-use crate::asking::{Asked, answers, head, is_answered, list_of, service_under};
+use crate::asking::{
+    Asked, Made, answers, head, is_answered, is_answered_under, list_of, service_under,
+};
 use crate::building::Call::{
     Age, AnyOrigin, Block, Credentials, Expose, ExposeAny, Headers, Methods, NoPreflight, NoVary,
     Origin, Permissive, Wildcard,
 };
-use crate::building::{Call, after, built};
+use crate::building::{Built, Call, built, ruled};
+use crate::equalities::{are_equal, have_equal_policies};
 use crate::inner::Inner;
+use crate::shown::{every, hold, holds, not};
 use cors_answer::{Cors, CorsFault, CorsInitError, CorsMiddleware, CorsRefusal};
 use cors_policy::{ConfigError, CorsError, NoRule, OriginRule, Policy};
 use futures::task::Poll;
 use futures::test::MockTask;
 use http::method::Method;
 use http_header::VARY;
-use http1_plain::{ErrorResponse, HeaderList, RequestHead, Response};
+use http1_plain::{ErrorResponse, FieldValue, HeaderList, RequestHead, Response};
 use service_core::{NoMemory, Service};
 use std::alloc::{AllocError, AllocGlobal, Global};
+use std::process::Abort;
 use std::random::RandomSource;
 use std::test::Fail;
 
@@ -64,7 +69,26 @@ fn cors_says(
     asked: Asked,
     checks: Checks,
 ) -> Result<bool, AllocError> {
-    Ok(says(cors.policy(), &head(alloc, asked)?, checks))
+    match head(alloc, asked) {
+        Ok(head) => {
+            let shown = says(cors.policy(), &head, checks);
+            drop(head);
+            Ok(shown)
+        }
+        Err(error) => Err(error),
+    }
+}
+
+fn says_under(
+    alloc: Global,
+    cors: &Built,
+    asked: Asked,
+    checks: Checks,
+) -> Result<bool, AllocError> {
+    match cors {
+        Ok(cors) => cors_says(alloc, cors, asked, checks),
+        Err(error) => Err(*error),
+    }
 }
 
 // Whether a policy after the calls says so of the request.
@@ -74,7 +98,10 @@ fn policy_says(
     asked: Asked,
     checks: Checks,
 ) -> Result<bool, AllocError> {
-    cors_says(alloc, &built(alloc, calls)?, asked, checks)
+    let cors = built(alloc, calls);
+    let shown = says_under(alloc, &cors, asked, checks);
+    drop(cors);
+    shown
 }
 
 #[test]
@@ -89,8 +116,10 @@ fn refusals_by_each_check(rt: HostRuntime) -> Result<(), Fail> {
         Err(CorsError::MissingRequestMethod),
         Err(CorsError::HeadersNotAllowed),
     );
-    assert!(rt; policy_says(rt.alloc(), &calls, (Method::GET, &fields), checks)?);
-    Ok(())
+    holds(
+        &rt,
+        policy_says(rt.alloc(), &calls, (Method::GET, &fields), checks),
+    )
 }
 
 /// Allows origins under `.rust-lang.org`.
@@ -105,25 +134,16 @@ impl OriginRule for RustLang {
     }
 }
 
-fn by_rust_lang(cors: Cors<RustLang>) -> Result<Cors<RustLang>, AllocError> {
-    cors.allowed_origin_fn(RustLang)
-}
-
-// The origins under `.rust-lang.org`, and `https://www.rust-lang.org`.
-fn rust_lang_origins(alloc: Global) -> Result<Cors<RustLang>, AllocError> {
-    let calls = [Origin("https://www.rust-lang.org")];
-    by_rust_lang(after(alloc, Cors::default(alloc), &calls)?)
-}
-
-const MORE_ALLOWED: [Call; 3] = [
+const RUST_LANG: [Call; 4] = [
+    Origin("https://www.rust-lang.org"),
     Methods(&["GET", "POST"]),
     Headers(&["authorization", "accept", "content-type"]),
     Age(Some(3600)),
 ];
 
-// The same, with two methods and three headers.
+// The origins under `.rust-lang.org`, and `https://www.rust-lang.org`, with two methods and three headers.
 fn rust_lang(alloc: Global) -> Result<Cors<RustLang>, AllocError> {
-    after(alloc, rust_lang_origins(alloc)?, &MORE_ALLOWED)
+    ruled(alloc, RustLang, &RUST_LANG)
 }
 
 fn rust_lang_gives(
@@ -132,16 +152,21 @@ fn rust_lang_gives(
     asked: Asked,
     parts: &[&str],
 ) -> Result<bool, AllocError> {
-    is_answered(task, alloc, &rust_lang(alloc)?, asked, parts)
+    let cors = rust_lang(alloc);
+    let shown = is_answered_under(task, alloc, &cors, asked, parts);
+    drop(cors);
+    shown
 }
 
-// Whether these parts answer a request under that policy.
-fn rust_lang_answers<R>(rt: &R, asked: Asked, parts: &[&str]) -> Result<bool, Fail>
+// These parts answer a request under that policy.
+fn rust_lang_answers<R>(rt: &R, asked: Asked, parts: &[&str]) -> Result<(), Fail>
 where
-    R: RandomSource + AllocGlobal,
+    R: RandomSource + AllocGlobal + Abort,
 {
     let task = MockTask::new(rt)?;
-    Ok(rust_lang_gives(&task, rt.alloc(), asked, parts)?)
+    let shown = rust_lang_gives(&task, rt.alloc(), asked, parts);
+    drop(task);
+    holds(rt, shown)
 }
 
 #[test]
@@ -157,8 +182,7 @@ fn a_rule_allows_an_origin(rt: HostRuntime) -> Result<(), Fail> {
         "V",
         "0",
     ];
-    assert!(rt; rust_lang_answers(&rt, (Method::OPTIONS, &fields), &parts)?);
-    Ok(())
+    rust_lang_answers(&rt, (Method::OPTIONS, &fields), &parts)
 }
 
 #[test]
@@ -171,17 +195,22 @@ fn no_rule_allows_an_origin(rt: HostRuntime) -> Result<(), Fail> {
         "B",
         "content-length: 42\r\n\r\nOrigin is not allowed to make this request",
     ];
-    assert!(rt; rust_lang_answers(&rt, (Method::OPTIONS, &fields), &parts)?);
-    Ok(())
+    rust_lang_answers(&rt, (Method::OPTIONS, &fields), &parts)
 }
 
-fn has_error(cors: &Cors<NoRule>, error: Option<ConfigError>) -> bool {
-    cors.error() == error
+fn has_error(cors: &Built, error: Option<ConfigError>) -> Result<bool, AllocError> {
+    match cors {
+        Ok(cors) => Ok(cors.error() == error),
+        Err(error) => Err(*error),
+    }
 }
 
 // Whether this is the error that a builder keeps after the calls.
 fn keeps(alloc: Global, calls: &[Call], error: Option<ConfigError>) -> Result<bool, AllocError> {
-    Ok(has_error(&built(alloc, calls)?, error))
+    let cors = built(alloc, calls);
+    let shown = has_error(&cors, error);
+    drop(cors);
+    shown
 }
 
 fn keeps_of_origin(
@@ -196,35 +225,37 @@ fn keeps_each_error(alloc: Global) -> Result<bool, AllocError> {
     let wildcard = Some(ConfigError::WildcardOrigin);
     let uri = Some(ConfigError::BadOriginUri);
     let value = Some(ConfigError::BadOriginValue);
-    Ok(
-        keeps_of_origin(alloc, "*", wildcard)?
-            && keeps_of_origin(alloc, "a b", uri)?
-            && keeps_of_origin(alloc, "", uri)?
-            && keeps_of_origin(alloc, "//#*//é=", value)?,
-    )
+    every(&[
+        keeps_of_origin(alloc, "*", wildcard),
+        keeps_of_origin(alloc, "a b", uri),
+        keeps_of_origin(alloc, "", uri),
+        keeps_of_origin(alloc, "//#*//é=", value),
+    ])
 }
 
 fn keeps_no_error(alloc: Global) -> Result<bool, AllocError> {
-    Ok(keeps_of_origin(alloc, "localhost:3000", None)? && keeps_of_origin(alloc, "/x", None)?)
+    every(&[
+        keeps_of_origin(alloc, "localhost:3000", None),
+        keeps_of_origin(alloc, "/x", None),
+    ])
 }
 
 #[test]
 fn refused_origins(rt: HostRuntime) -> Result<(), Fail> {
-    assert!(rt; keeps_each_error(rt.alloc())?);
-    assert!(rt; keeps_no_error(rt.alloc())?);
-    Ok(())
+    let alloc = rt.alloc();
+    hold(&rt, &[keeps_each_error(alloc), keeps_no_error(alloc)])
 }
 
 #[test]
 fn the_first_error_is_kept(rt: HostRuntime) -> Result<(), Fail> {
     let calls = [Origin("*"), Expose(&["a:b"]), Methods(&["a b"])];
-    assert!(rt; keeps(rt.alloc(), &calls, Some(ConfigError::WildcardOrigin))?);
-    Ok(())
+    holds(
+        &rt,
+        keeps(rt.alloc(), &calls, Some(ConfigError::WildcardOrigin)),
+    )
 }
 
-type Made = CorsMiddleware<Inner, NoRule>;
-
-fn made(alloc: Global, cors: &Cors<NoRule>) -> Result<Made, CorsInitError> {
+fn made(alloc: Global, cors: &Cors<NoRule>) -> Made<NoRule> {
     service_under(
         cors,
         Inner {
@@ -241,10 +272,7 @@ fn is_config(error: CorsInitError, wanted: ConfigError) -> Result<bool, AllocErr
     }
 }
 
-fn is_refused_for(
-    made: &Result<Made, CorsInitError>,
-    error: ConfigError,
-) -> Result<bool, AllocError> {
+fn is_refused_for(made: &Made<NoRule>, error: ConfigError) -> Result<bool, AllocError> {
     match made {
         Ok(_) => Ok(false),
         Err(found) => is_config(*found, error),
@@ -256,19 +284,34 @@ fn is_refused_under(
     cors: &Cors<NoRule>,
     error: ConfigError,
 ) -> Result<bool, AllocError> {
-    is_refused_for(&made(alloc, cors), error)
+    let made = made(alloc, cors);
+    let shown = is_refused_for(&made, error);
+    drop(made);
+    shown
+}
+
+fn is_refused_by(alloc: Global, cors: &Built, error: ConfigError) -> Result<bool, AllocError> {
+    match cors {
+        Ok(cors) => is_refused_under(alloc, cors, error),
+        Err(error) => Err(*error),
+    }
 }
 
 // Whether no service is put under a policy after the calls, because of this error.
 fn is_refused(alloc: Global, calls: &[Call], error: ConfigError) -> Result<bool, AllocError> {
-    is_refused_under(alloc, &built(alloc, calls)?, error)
+    let cors = built(alloc, calls);
+    let shown = is_refused_by(alloc, &cors, error);
+    drop(cors);
+    shown
 }
 
 #[test]
 fn credentials_for_all_by_a_wildcard(rt: HostRuntime) -> Result<(), Fail> {
     let calls = [Permissive, Wildcard];
-    assert!(rt; is_refused(rt.alloc(), &calls, ConfigError::IllegalCombination)?);
-    Ok(())
+    holds(
+        &rt,
+        is_refused(rt.alloc(), &calls, ConfigError::IllegalCombination),
+    )
 }
 
 #[test]
@@ -287,8 +330,7 @@ fn what_a_builder_takes_is_written(rt: HostRuntime) -> Result<(), Fail> {
         "H",
     ];
     let fields = [("Origin", "https://a.example")];
-    assert!(rt; answers(&rt, &calls, (Method::GET, &fields), &parts)?);
-    Ok(())
+    answers(&rt, &calls, (Method::GET, &fields), &parts)
 }
 
 #[test]
@@ -301,15 +343,12 @@ fn the_service_itself_answers_a_preflight(rt: HostRuntime) -> Result<(), Fail> {
         "H",
     ];
     let fields = [("Access-Control-Request-Method", "GET")];
-    assert!(rt;
-        answers(
-            &rt,
-            &[ExposeAny, NoPreflight],
-            (Method::OPTIONS, &fields),
-            &parts
-        )?
-    );
-    Ok(())
+    answers(
+        &rt,
+        &[ExposeAny, NoPreflight],
+        (Method::OPTIONS, &fields),
+        &parts,
+    )
 }
 
 // A request of `https://a.example`, with PUT and a header asked for.
@@ -320,14 +359,26 @@ const PUT: [(&str, &str); 3] = [
 ];
 
 fn is_preflight(alloc: Global, method: Method) -> Result<bool, AllocError> {
-    Ok(Policy::<NoRule>::is_request_preflight(&head(alloc, (method, &PUT))?))
+    match head(alloc, (method, &PUT)) {
+        Ok(head) => {
+            let shown = Policy::<NoRule>::is_request_preflight(&head);
+            drop(head);
+            Ok(shown)
+        }
+        Err(error) => Err(error),
+    }
 }
 
 #[test]
 fn a_preflight_goes_by_options(rt: HostRuntime) -> Result<(), Fail> {
-    assert!(rt; is_preflight(rt.alloc(), Method::OPTIONS)?);
-    assert!(rt; !is_preflight(rt.alloc(), Method::GET)?);
-    Ok(())
+    let alloc = rt.alloc();
+    hold(
+        &rt,
+        &[
+            is_preflight(alloc, Method::OPTIONS),
+            not(is_preflight(alloc, Method::GET)),
+        ],
+    )
 }
 
 fn says_and_grants(
@@ -337,16 +388,43 @@ fn says_and_grants(
     checks: Checks,
     grant: &[u8],
 ) -> Result<bool, AllocError> {
-    let head = head(alloc, asked)?;
-    Ok(says(policy, &head, checks) && grants(policy, &head, grant))
+    match head(alloc, asked) {
+        Ok(head) => {
+            let shown = says(policy, &head, checks) && grants(policy, &head, grant);
+            drop(head);
+            Ok(shown)
+        }
+        Err(error) => Err(error),
+    }
 }
 
-fn copy_of(alloc: Global, cors: &Cors<NoRule>) -> Result<Policy<NoRule>, AllocError> {
-    cors.policy().copy(alloc)
+type Copied = Result<Policy<NoRule>, AllocError>;
+
+fn copy_says_and_grants(
+    alloc: Global,
+    copy: &Copied,
+    asked: Asked,
+    checks: Checks,
+    grant: &[u8],
+) -> Result<bool, AllocError> {
+    match copy {
+        Ok(policy) => says_and_grants(alloc, policy, asked, checks, grant),
+        Err(error) => Err(*error),
+    }
 }
 
-fn copy_after(alloc: Global, calls: &[Call]) -> Result<Policy<NoRule>, AllocError> {
-    copy_of(alloc, &built(alloc, calls)?)
+fn copy_of(alloc: Global, cors: &Built) -> Copied {
+    match cors {
+        Ok(cors) => cors.policy().copy(alloc),
+        Err(error) => Err(*error),
+    }
+}
+
+fn copy_after(alloc: Global, calls: &[Call]) -> Copied {
+    let cors = built(alloc, calls);
+    let copy = copy_of(alloc, &cors);
+    drop(cors);
+    copy
 }
 
 // Whether a copy of a policy after the calls says so of the request, and writes this grant.
@@ -357,47 +435,73 @@ fn copy_says(
     checks: Checks,
     grant: &[u8],
 ) -> Result<bool, AllocError> {
-    says_and_grants(alloc, &copy_after(alloc, calls)?, asked, checks, grant)
+    let copy = copy_after(alloc, calls);
+    let shown = copy_says_and_grants(alloc, &copy, asked, checks, grant);
+    drop(copy);
+    shown
 }
 
 #[test]
 fn a_copy_of_a_policy_is_asked(rt: HostRuntime) -> Result<(), Fail> {
     let checks = (Ok(true), Ok(()), Ok(()));
     let asked = (Method::OPTIONS, PUT.as_slice());
-    assert!(rt;
+    holds(
+        &rt,
         copy_says(
             rt.alloc(),
             &[Permissive],
             asked,
             checks,
-            b"https://a.example"
-        )?
-    );
-    Ok(())
+            b"https://a.example",
+        ),
+    )
 }
 
 fn no_rule_allows(alloc: Global, origin: &[u8], asked: Asked) -> Result<bool, AllocError> {
-    Ok(NoRule.allows(origin, &head(alloc, asked)?))
+    match head(alloc, asked) {
+        Ok(head) => {
+            let shown = NoRule.allows(origin, &head);
+            drop(head);
+            Ok(shown)
+        }
+        Err(error) => Err(error),
+    }
 }
 
-fn has_some_config_error(cors: &Cors<NoRule>) -> bool {
-    cors.config_error().is_some()
+fn has_some_config_error(cors: &Built) -> Result<bool, AllocError> {
+    match cors {
+        Ok(cors) => Ok(cors.config_error().is_some()),
+        Err(error) => Err(*error),
+    }
 }
 
 fn has_config_error(alloc: Global, calls: &[Call]) -> Result<bool, AllocError> {
-    Ok(has_some_config_error(&built(alloc, calls)?))
+    let cors = built(alloc, calls);
+    let shown = has_some_config_error(&cors);
+    drop(cors);
+    shown
 }
 
 #[test]
 fn no_rule_and_no_error(rt: HostRuntime) -> Result<(), Fail> {
-    assert!(rt; !no_rule_allows(rt.alloc(), b"https://a.example", (Method::GET, &PUT))?);
-    assert!(rt; !has_config_error(rt.alloc(), &[])?);
-    Ok(())
+    let alloc = rt.alloc();
+    let asked = (Method::GET, PUT.as_slice());
+    hold(
+        &rt,
+        &[
+            not(no_rule_allows(alloc, b"https://a.example", asked)),
+            not(has_config_error(alloc, &[])),
+        ],
+    )
+}
+
+fn vary_of(headers: &HeaderList) -> Option<&FieldValue> {
+    headers.get(&VARY)
 }
 
 // Whether there are so many headers, and `vary` has this value.
 fn has_vary(headers: &HeaderList, count: usize, value: &[u8]) -> bool {
-    match headers.get(&VARY) {
+    match vary_of(headers) {
         Some(found) => headers.len() == count && found.as_bytes() == value,
         None => false,
     }
@@ -408,8 +512,10 @@ fn varies_once_added(
     count: usize,
     value: &[u8],
 ) -> Result<bool, AllocError> {
-    Policy::<NoRule>::add_vary_header(headers)?;
-    Ok(has_vary(headers, count, value))
+    match Policy::<NoRule>::add_vary_header(headers) {
+        Ok(()) => Ok(has_vary(headers, count, value)),
+        Err(error) => Err(error),
+    }
 }
 
 // Whether so many headers are left once `vary` is added, of this value.
@@ -419,53 +525,97 @@ fn varies(
     count: usize,
     value: &[u8],
 ) -> Result<bool, AllocError> {
-    varies_once_added(&mut list_of(alloc, fields)?, count, value)
+    match list_of(alloc, fields) {
+        Ok(mut headers) => {
+            let shown = varies_once_added(&mut headers, count, value);
+            drop(headers);
+            shown
+        }
+        Err(error) => Err(error),
+    }
 }
 
 #[test]
 fn vary_goes_behind_what_was_there(rt: HostRuntime) -> Result<(), Fail> {
     let fields = [("vary", "Accept"), ("age", "1"), ("vary", "Cookie")];
     let value = b"Accept, Origin, Access-Control-Request-Method, Access-Control-Request-Headers";
-    assert!(rt; varies(rt.alloc(), &fields, 2, value)?);
-    Ok(())
+    holds(&rt, varies(rt.alloc(), &fields, 2, value))
+}
+
+fn is_refusal(response: &Response, text: &[u8]) -> bool {
+    response.status() == 400 && response.headers().len() == 0 && response.body() == text
 }
 
 // Whether a refusal for the error answers 400 with the text as its body and no headers.
 fn is_told(alloc: Global, error: CorsError, text: &[u8]) -> Result<bool, AllocError> {
-    let response = CorsRefusal { error }.into_response(alloc)?;
-    Ok(response.status() == 400 && response.headers().len() == 0 && response.body() == text)
+    match (CorsRefusal { error }).into_response(alloc) {
+        Ok(response) => {
+            let shown = is_refusal(&response, text);
+            drop(response);
+            Ok(shown)
+        }
+        Err(error) => Err(error),
+    }
 }
 
 #[test]
 fn a_refusal_answers_with_its_text(rt: HostRuntime) -> Result<(), Fail> {
     let text = b"Request header `Origin` is required but was not provided";
-    assert!(rt; is_told(rt.alloc(), CorsError::MissingOrigin, text)?);
-    Ok(())
+    holds(&rt, is_told(rt.alloc(), CorsError::MissingOrigin, text))
 }
 
-fn fault_status(alloc: Global) -> Result<u16, AllocError> {
-    let answered = CorsFault::Answered(Response::new(alloc, 404));
-    Ok(answered.into_response(alloc)?.status())
+fn fault_has_status(alloc: Global, fault: CorsFault, status: u16) -> Result<bool, AllocError> {
+    match fault.into_response(alloc) {
+        Ok(response) => {
+            let shown = response.status() == status;
+            drop(response);
+            Ok(shown)
+        }
+        Err(error) => Err(error),
+    }
+}
+
+fn answered_has_status(alloc: Global) -> Result<bool, AllocError> {
+    fault_has_status(alloc, CorsFault::Answered(Response::new(alloc, 404)), 404)
+}
+
+fn no_memory_has_no_response(alloc: Global) -> bool {
+    CorsFault::no_memory().into_response(alloc).is_err()
+}
+
+fn no_memory_is_want_of_memory() -> bool {
+    CorsInitError::from(AllocError) == CorsInitError::no_memory()
 }
 
 #[test]
 fn a_fault_answers_with_its_response(rt: HostRuntime) -> Result<(), Fail> {
     let alloc = rt.alloc();
-    assert_eq!(rt; fault_status(alloc)?, 404);
-    assert!(rt; CorsFault::no_memory().into_response(alloc).is_err());
-    assert!(rt; CorsInitError::from(AllocError) == CorsInitError::no_memory());
-    Ok(())
+    hold(
+        &rt,
+        &[
+            answered_has_status(alloc),
+            Ok(no_memory_has_no_response(alloc)),
+            Ok(no_memory_is_want_of_memory()),
+        ],
+    )
 }
 
-fn is_ready(task: &MockTask, service: &Made) -> bool {
-    match task.enter(|cx| service.poll_ready(cx)) {
+fn is_ready_at_once(polled: &Poll<Result<(), CorsFault>>) -> bool {
+    match polled {
         Poll::Ready(Ok(())) => true,
         _ => false,
     }
 }
 
+fn is_ready(task: &MockTask, service: &CorsMiddleware<Inner, NoRule>) -> bool {
+    let polled = task.enter(|cx| service.poll_ready(cx));
+    let shown = is_ready_at_once(&polled);
+    drop(polled);
+    shown
+}
+
 // Whether the service is made and ready.
-fn is_made_ready(task: &MockTask, made: &Result<Made, CorsInitError>) -> Result<bool, AllocError> {
+fn is_made_ready(task: &MockTask, made: &Made<NoRule>) -> Result<bool, AllocError> {
     match made {
         Ok(service) => Ok(is_ready(task, service)),
         Err(_) => Err(AllocError),
@@ -473,68 +623,56 @@ fn is_made_ready(task: &MockTask, made: &Result<Made, CorsInitError>) -> Result<
 }
 
 fn is_ready_under(task: &MockTask, alloc: Global, cors: &Cors<NoRule>) -> Result<bool, AllocError> {
-    is_made_ready(task, &made(alloc, cors))
+    let made = made(alloc, cors);
+    let shown = is_made_ready(task, &made);
+    drop(made);
+    shown
 }
 
 // Whether a service under the empty policy is ready.
 fn made_is_ready(task: &MockTask, alloc: Global) -> Result<bool, AllocError> {
-    is_ready_under(task, alloc, &Cors::default(alloc))
+    let cors = Cors::default(alloc);
+    let shown = is_ready_under(task, alloc, &cors);
+    drop(cors);
+    shown
 }
 
 #[test]
 fn a_middleware_is_as_ready_as_its_service(rt: HostRuntime) -> Result<(), Fail> {
     let task = MockTask::new(&rt)?;
-    assert!(rt; made_is_ready(&task, rt.alloc())?);
-    Ok(())
-}
-
-fn equals(one: &Cors<NoRule>, other: &Cors<NoRule>) -> bool {
-    *one == *other
-}
-
-fn equals_after(alloc: Global, one: &Cors<NoRule>, other: &[Call]) -> Result<bool, AllocError> {
-    Ok(equals(one, &built(alloc, other)?))
-}
-
-// Whether the builders are equal after these calls.
-fn are_equal(alloc: Global, one: &[Call], other: &[Call]) -> Result<bool, AllocError> {
-    equals_after(alloc, &built(alloc, one)?, other)
+    let shown = made_is_ready(&task, rt.alloc());
+    drop(task);
+    holds(&rt, shown)
 }
 
 #[test]
 fn policies_are_equal_by_all_that_they_say(rt: HostRuntime) -> Result<(), Fail> {
     let alloc = rt.alloc();
-    assert!(rt; are_equal(alloc, &[], &[])?);
-    assert!(rt; !are_equal(alloc, &[], &[Wildcard])?);
-    assert!(rt; !are_equal(alloc, &[], &[Age(Some(0))])?);
-    Ok(())
+    hold(
+        &rt,
+        &[
+            are_equal(alloc, &[], &[]),
+            not(are_equal(alloc, &[], &[Wildcard])),
+            not(are_equal(alloc, &[], &[Age(Some(0))])),
+        ],
+    )
 }
 
 #[test]
 fn policies_that_allow_everything_are_equal(rt: HostRuntime) -> Result<(), Fail> {
     let alloc = rt.alloc();
-    assert!(rt; are_equal(alloc, &[Permissive], &[Permissive])?);
-    assert!(rt; !are_equal(alloc, &[Permissive], &[])?);
-    Ok(())
+    hold(
+        &rt,
+        &[
+            are_equal(alloc, &[Permissive], &[Permissive]),
+            not(are_equal(alloc, &[Permissive], &[])),
+        ],
+    )
 }
 
 #[test]
 fn a_kept_error_is_no_part_of_a_policy(rt: HostRuntime) -> Result<(), Fail> {
-    assert!(rt; are_equal(rt.alloc(), &[Origin("*")], &[])?);
-    Ok(())
-}
-
-fn has_policy_of(one: &Cors<NoRule>, other: &Cors<NoRule>) -> bool {
-    *one.policy() == *other.policy()
-}
-
-fn has_policy_after(alloc: Global, one: &Cors<NoRule>, other: &[Call]) -> Result<bool, AllocError> {
-    Ok(has_policy_of(one, &built(alloc, other)?))
-}
-
-// Whether the policies are equal after these calls.
-fn have_equal_policies(alloc: Global, one: &[Call], other: &[Call]) -> Result<bool, AllocError> {
-    has_policy_after(alloc, &built(alloc, one)?, other)
+    holds(&rt, are_equal(rt.alloc(), &[Origin("*")], &[]))
 }
 
 const A: Call = Origin("https://a.example");
@@ -544,25 +682,34 @@ const B: Call = Origin("https://b.example");
 #[test]
 fn the_order_of_a_builders_calls_is_no_matter(rt: HostRuntime) -> Result<(), Fail> {
     let alloc = rt.alloc();
-    assert!(rt; are_equal(alloc, &[A, B], &[B, A, B])?);
-    assert!(rt; have_equal_policies(alloc, &[A, B], &[B, A, B])?);
-    assert!(rt; !are_equal(alloc, &[A, B], &[AnyOrigin])?);
-    Ok(())
+    hold(
+        &rt,
+        &[
+            are_equal(alloc, &[A, B], &[B, A, B]),
+            have_equal_policies(alloc, &[A, B], &[B, A, B]),
+            not(are_equal(alloc, &[A, B], &[AnyOrigin])),
+        ],
+    )
 }
 
 fn host(alloc: Global, k: u32) -> Result<String, AllocError> {
     format!(in alloc; "https://host-{k}.example")
 }
 
-fn and_host(alloc: Global, cors: Cors<NoRule>, k: u32) -> Result<Cors<NoRule>, AllocError> {
-    let origin = host(alloc, k)?;
-    cors.allowed_origin(origin.as_str())
+fn and_host(cors: Cors<NoRule>, host: &Result<String, AllocError>) -> Built {
+    match host {
+        Ok(host) => cors.allowed_origin(host.as_str()),
+        Err(error) => {
+            drop(cors);
+            Err(*error)
+        }
+    }
 }
 
-fn many_origins(alloc: Global) -> Result<Cors<NoRule>, AllocError> {
+fn many_origins(alloc: Global) -> Built {
     let mut cors = Cors::default(alloc);
     for k in 0..1000 {
-        cors = and_host(alloc, cors, k)?;
+        cors = and_host(cors, &host(alloc, k))?;
     }
     Ok(cors)
 }
@@ -575,7 +722,23 @@ fn has_no_error_and_gives(
     asked: Asked,
     parts: &[&str],
 ) -> Result<bool, AllocError> {
-    Ok(cors.error().is_none() && is_answered(task, alloc, cors, asked, parts)?)
+    every(&[
+        Ok(cors.error().is_none()),
+        is_answered(task, alloc, cors, asked, parts),
+    ])
+}
+
+fn has_no_error_and_gives_under(
+    task: &MockTask,
+    alloc: Global,
+    cors: &Built,
+    asked: Asked,
+    parts: &[&str],
+) -> Result<bool, AllocError> {
+    match cors {
+        Ok(cors) => has_no_error_and_gives(task, alloc, cors, asked, parts),
+        Err(error) => Err(*error),
+    }
 }
 
 fn many_origins_give(
@@ -584,16 +747,21 @@ fn many_origins_give(
     asked: Asked,
     parts: &[&str],
 ) -> Result<bool, AllocError> {
-    has_no_error_and_gives(task, alloc, &many_origins(alloc)?, asked, parts)
+    let cors = many_origins(alloc);
+    let shown = has_no_error_and_gives_under(task, alloc, &cors, asked, parts);
+    drop(cors);
+    shown
 }
 
-// Whether a thousand origins are taken without an error, and these parts then answer a request.
-fn many_origins_answer<R>(rt: &R, asked: Asked, parts: &[&str]) -> Result<bool, Fail>
+// A thousand origins are taken without an error, and these parts then answer a request.
+fn many_origins_answer<R>(rt: &R, asked: Asked, parts: &[&str]) -> Result<(), Fail>
 where
-    R: RandomSource + AllocGlobal,
+    R: RandomSource + AllocGlobal + Abort,
 {
     let task = MockTask::new(rt)?;
-    Ok(many_origins_give(&task, rt.alloc(), asked, parts)?)
+    let shown = many_origins_give(&task, rt.alloc(), asked, parts);
+    drop(task);
+    holds(rt, shown)
 }
 
 #[test]
@@ -606,14 +774,12 @@ fn the_last_of_a_thousand_origins_is_granted(rt: HostRuntime) -> Result<(), Fail
         "V",
         "H",
     ];
-    assert!(rt; many_origins_answer(&rt, (Method::GET, &fields), &parts)?);
-    Ok(())
+    many_origins_answer(&rt, (Method::GET, &fields), &parts)
 }
 
 #[test]
 fn none_beyond_a_thousand_origins_is_granted(rt: HostRuntime) -> Result<(), Fail> {
     let fields = [("Origin", "https://host-1000.example")];
     let parts = ["R", "T", "V", "H"];
-    assert!(rt; many_origins_answer(&rt, (Method::GET, &fields), &parts)?);
-    Ok(())
+    many_origins_answer(&rt, (Method::GET, &fields), &parts)
 }

@@ -7,24 +7,36 @@ use std::alloc::{AllocError, Global};
 
 // A GET of `/` with the headers.
 fn get(alloc: Global, headers: HeaderList) -> Result<Request, AllocError> {
-    Ok(Request {
-        head: RequestHead {
-            method: Method::GET,
-            target: Octets::of(alloc, b"/")?,
-            version: HttpVersion::Http11,
-            headers,
-        },
-        body: Octets::new(alloc),
-        peer: Peer::Local,
-    })
+    match Octets::of(alloc, b"/") {
+        Ok(target) => Ok(Request {
+            head: RequestHead {
+                method: Method::GET,
+                target,
+                version: HttpVersion::Http11,
+                headers,
+            },
+            body: Octets::new(alloc),
+            peer: Peer::Local,
+        }),
+        Err(error) => Err(error),
+    }
+}
+
+// The list goes on with the origin.
+fn put_shop(alloc: Global, headers: &mut HeaderList) -> Result<(), AllocError> {
+    match FieldValue::of_field_bytes(alloc, b"https://shop.example") {
+        Ok(origin) => headers.append(ORIGIN, origin),
+        Err(error) => Err(error),
+    }
 }
 
 /// What a browser asks for a page of `https://shop.example`.
 pub fn of_the_shop(alloc: Global) -> Result<Request, AllocError> {
     let mut headers = HeaderList::new(alloc);
-    let origin = FieldValue::of_field_bytes(alloc, b"https://shop.example")?;
-    headers.append(ORIGIN, origin)?;
-    get(alloc, headers)
+    match put_shop(alloc, &mut headers) {
+        Ok(()) => get(alloc, headers),
+        Err(error) => Err(error),
+    }
 }
 
 /// A request that names no origin.

@@ -2,6 +2,7 @@
 ghost use Rattle.std.specs.Prelude.{◌≡◌, Some};
 ghost use Rattle.cors_rules.specs.Allowed.{some_of};
 
+use crate::shown::hold;
 use cors_rules::AllOrSome;
 use std::alloc::{AllocError, Global};
 use std::test::Fail;
@@ -14,9 +15,13 @@ fn copies_alike<T: Clone + PartialEq>(set: &AllOrSome<T>) -> Result<bool, AllocE
 
 #[test]
 fn a_copy_allows_what_its_original_allows(rt: HostRuntime) -> Result<(), Fail> {
-    assert!(rt; copies_alike(&AllOrSome::Some(7u8))?);
-    assert!(rt; copies_alike(&AllOrSome::<u8>::All)?);
-    Ok(())
+    hold(
+        &rt,
+        &[
+            copies_alike(&AllOrSome::Some(7u8)),
+            copies_alike(&AllOrSome::<u8>::All),
+        ],
+    )
 }
 
 // Only this number is allowed from now on, where not everything is.

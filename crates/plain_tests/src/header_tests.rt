@@ -1,8 +1,9 @@
 //! Lists of headers looked up and changed.
 ghost use Rattle.std.specs.Prelude.{◌≡◌, length};
 
-use crate::bytes::{add, empty, is};
+use crate::bytes::{add, empty, is_made};
 use crate::headers::{add_line, lines, list_of, name_of, value_of};
+use crate::shown::{every, hold, holds};
 use http_header::{AGE, HOST, HeaderName, VARY};
 use http1_plain::{FieldValue, HeaderList, Single};
 use service_core::Octets;
@@ -11,7 +12,7 @@ use std::test::Fail;
 
 // Whether the list has these headers, which are told as lines.
 fn has_lines(alloc: Global, headers: &HeaderList, wanted: &[u8]) -> Result<bool, AllocError> {
-    Ok(is(&lines(alloc, headers)?, wanted))
+    is_made(&lines(alloc, headers), wanted)
 }
 
 // The list vary: a, age: 1, vary: b, vary: c.
@@ -48,10 +49,16 @@ fn are_found(list: &HeaderList) -> bool {
         && times(list, b"host") == 0
 }
 
+fn four_are_found(alloc: Global) -> Result<bool, AllocError> {
+    match four_headers(alloc) {
+        Ok(list) => Ok(are_found(&list)),
+        Err(error) => Err(error),
+    }
+}
+
 #[test]
 fn a_header_is_looked_up_in_any_case(rt: HostRuntime) -> Result<(), Fail> {
-    assert!(rt; are_found(&four_headers(rt.alloc())?));
-    Ok(())
+    holds(&rt, four_are_found(rt.alloc()))
 }
 
 // The value takes the place of the first header of the name.
@@ -76,19 +83,24 @@ fn inserts(
 }
 
 fn inserts_both(alloc: Global, list: &mut HeaderList) -> Result<bool, AllocError> {
-    Ok(
-        inserts(list, alloc, (VARY, b"Origin"), b"vary=Origin;age=1;")?
-            && inserts(list, alloc, (HOST, b"h"), b"vary=Origin;age=1;host=h;")?,
-    )
+    every(&[
+        inserts(list, alloc, (VARY, b"Origin"), b"vary=Origin;age=1;"),
+        inserts(list, alloc, (HOST, b"h"), b"vary=Origin;age=1;host=h;"),
+    ])
+}
+
+fn four_take_both(alloc: Global) -> Result<bool, AllocError> {
+    match four_headers(alloc) {
+        Ok(mut list) => inserts_both(alloc, &mut list),
+        Err(error) => Err(error),
+    }
 }
 
 #[test]
 fn an_inserted_header_takes_the_place_of_the_first_of_its_name(
     rt: HostRuntime,
 ) -> Result<(), Fail> {
-    let mut list = four_headers(rt.alloc())?;
-    assert!(rt; inserts_both(rt.alloc(), &mut list)?);
-    Ok(())
+    holds(&rt, four_take_both(rt.alloc()))
 }
 
 // So many headers of the name go.
@@ -98,22 +110,30 @@ fn loses(list: &mut HeaderList, name: &HeaderName, wanted: usize) -> bool {
 
 // Whether the copy has its four headers when one of the list has gone.
 fn stays(alloc: Global, list: &mut HeaderList, copy: &HeaderList) -> Result<bool, AllocError> {
-    Ok(
-        loses(list, &AGE, 1)
-            && has_lines(alloc, list, b"vary=a;vary=b;vary=c;")?
-            && has_lines(alloc, copy, b"vary=a;age=1;vary=b;vary=c;")?,
-    )
+    every(&[
+        Ok(loses(list, &AGE, 1)),
+        has_lines(alloc, list, b"vary=a;vary=b;vary=c;"),
+        has_lines(alloc, copy, b"vary=a;age=1;vary=b;vary=c;"),
+    ])
 }
 
-fn copy_stays(alloc: Global, mut list: HeaderList) -> Result<bool, AllocError> {
-    let copy = list.copy()?;
-    stays(alloc, &mut list, &copy)
+fn copy_stays(alloc: Global, list: &mut HeaderList) -> Result<bool, AllocError> {
+    match list.copy() {
+        Ok(copy) => stays(alloc, list, &copy),
+        Err(error) => Err(error),
+    }
+}
+
+fn copy_of_four_stays(alloc: Global) -> Result<bool, AllocError> {
+    match four_headers(alloc) {
+        Ok(mut list) => copy_stays(alloc, &mut list),
+        Err(error) => Err(error),
+    }
 }
 
 #[test]
 fn a_copy_stays_where_its_list_is_changed(rt: HostRuntime) -> Result<(), Fail> {
-    assert!(rt; copy_stays(rt.alloc(), four_headers(rt.alloc())?)?);
-    Ok(())
+    holds(&rt, copy_of_four_stays(rt.alloc()))
 }
 
 // The list a: 1, b: 2, a: 3.
@@ -141,19 +161,29 @@ fn are_empty(alloc: Global) -> bool {
 }
 
 fn are_told(alloc: Global, list: &HeaderList) -> Result<bool, AllocError> {
-    Ok(is(&lines_by_iter(alloc, list)?, b"a=1;b=2;a=3;"))
+    is_made(&lines_by_iter(alloc, list), b"a=1;b=2;a=3;")
 }
 
 // Whether the three headers are told in order.
 fn are_in_order(alloc: Global, list: &HeaderList) -> Result<bool, AllocError> {
-    Ok(count_of_headers(list) == 3 && are_told(alloc, list)? && !list.is_empty())
+    every(&[
+        Ok(count_of_headers(list) == 3),
+        are_told(alloc, list),
+        Ok(!list.is_empty()),
+    ])
+}
+
+fn three_are_in_order(alloc: Global) -> Result<bool, AllocError> {
+    match three_headers(alloc) {
+        Ok(list) => are_in_order(alloc, &list),
+        Err(error) => Err(error),
+    }
 }
 
 #[test]
 fn headers_are_told_in_order(rt: HostRuntime) -> Result<(), Fail> {
-    assert!(rt; are_in_order(rt.alloc(), &three_headers(rt.alloc())?)?);
-    assert!(rt; are_empty(rt.alloc()));
-    Ok(())
+    let alloc = rt.alloc();
+    hold(&rt, &[three_are_in_order(alloc), Ok(are_empty(alloc))])
 }
 
 // The values of the name, one behind the other.
@@ -176,22 +206,45 @@ fn has_values(
     name: &HeaderName,
     wanted: &[u8],
 ) -> Result<bool, AllocError> {
-    Ok(joined(alloc, headers, name)?.as_bytes() == wanted)
+    match joined(alloc, headers, name) {
+        Ok(value) => {
+            let shown = value.as_bytes() == wanted;
+            drop(value);
+            Ok(shown)
+        }
+        Err(error) => Err(error),
+    }
 }
 
 fn has_both_values(alloc: Global, list: &HeaderList) -> Result<bool, AllocError> {
-    has_values(alloc, list, &name_of(alloc, b"A")?, b"13")
+    match name_of(alloc, b"A") {
+        Ok(name) => {
+            let shown = has_values(alloc, list, &name, b"13");
+            drop(name);
+            shown
+        }
+        Err(error) => Err(error),
+    }
 }
 
 // Whether all values of a name are told, and none of one that is not there.
 fn has_all_values(alloc: Global, list: &HeaderList) -> Result<bool, AllocError> {
-    Ok(has_both_values(alloc, list)? && has_values(alloc, list, &HOST, b"")?)
+    every(&[
+        has_both_values(alloc, list),
+        has_values(alloc, list, &HOST, b""),
+    ])
+}
+
+fn three_have_all_values(alloc: Global) -> Result<bool, AllocError> {
+    match three_headers(alloc) {
+        Ok(list) => has_all_values(alloc, &list),
+        Err(error) => Err(error),
+    }
 }
 
 #[test]
 fn all_values_of_a_name(rt: HostRuntime) -> Result<(), Fail> {
-    assert!(rt; has_all_values(rt.alloc(), &three_headers(rt.alloc())?)?);
-    Ok(())
+    holds(&rt, three_have_all_values(rt.alloc()))
 }
 
 // Each name of the list once, one behind the other.
@@ -203,11 +256,20 @@ fn names(alloc: Global, headers: &HeaderList) -> Result<Octets, AllocError> {
     Ok(text)
 }
 
+fn has_names(alloc: Global, list: &HeaderList) -> Result<bool, AllocError> {
+    is_made(&names(alloc, list), b"ab")
+}
+
+fn has_two_names(alloc: Global) -> Result<bool, AllocError> {
+    match three_headers(alloc) {
+        Ok(list) => has_names(alloc, &list),
+        Err(error) => Err(error),
+    }
+}
+
 #[test]
 fn each_name_is_told_once(rt: HostRuntime) -> Result<(), Fail> {
-    let list = three_headers(rt.alloc())?;
-    assert!(rt; is(&names(rt.alloc(), &list)?, b"ab"));
-    Ok(())
+    holds(&rt, has_two_names(rt.alloc()))
 }
 
 // So many headers of the name go, which is told by its bytes.
@@ -217,21 +279,33 @@ fn loses_named(
     name: &[u8],
     wanted: usize,
 ) -> Result<bool, AllocError> {
-    Ok(loses(list, &name_of(alloc, name)?, wanted))
+    match name_of(alloc, name) {
+        Ok(name) => {
+            let shown = loses(list, &name, wanted);
+            drop(name);
+            Ok(shown)
+        }
+        Err(error) => Err(error),
+    }
 }
 
 // Whether only the headers of the name go.
 fn loses_only_named(alloc: Global, list: &mut HeaderList) -> Result<bool, AllocError> {
-    Ok(
-        loses(list, &HOST, 0)
-            && loses_named(list, alloc, b"a", 2)?
-            && has_lines(alloc, list, b"b=2;")?,
-    )
+    every(&[
+        Ok(loses(list, &HOST, 0)),
+        loses_named(list, alloc, b"a", 2),
+        has_lines(alloc, list, b"b=2;"),
+    ])
+}
+
+fn three_lose_only_named(alloc: Global) -> Result<bool, AllocError> {
+    match three_headers(alloc) {
+        Ok(mut list) => loses_only_named(alloc, &mut list),
+        Err(error) => Err(error),
+    }
 }
 
 #[test]
 fn headers_of_a_name_go(rt: HostRuntime) -> Result<(), Fail> {
-    let mut list = three_headers(rt.alloc())?;
-    assert!(rt; loses_only_named(rt.alloc(), &mut list)?);
-    Ok(())
+    holds(&rt, three_lose_only_named(rt.alloc()))
 }

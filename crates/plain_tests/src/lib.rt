@@ -16,4 +16,6 @@ mod response_tests;
 #[cfg(test)]
 mod rule_tests;
 #[cfg(test)]
+mod shown;
+#[cfg(test)]
 mod value_tests;

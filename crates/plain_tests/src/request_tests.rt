@@ -1,5 +1,6 @@
 //! Requests cut from bytes.
 use crate::bytes::{add, empty};
+use crate::shown::{every, hold, holds};
 use http1_plain::{Framing, Limits, NextHead, framing_of, next_head};
 use service_core::Octets;
 use std::alloc::{AllocError, Global};
@@ -25,54 +26,65 @@ fn outcome_of(next: &NextHead) -> usize {
 }
 
 fn outcome(alloc: Global, limits: Limits, bytes: &[u8]) -> Result<usize, AllocError> {
-    Ok(outcome_of(&next_head(alloc, limits, bytes)?))
+    match next_head(alloc, limits, bytes) {
+        Ok(next) => {
+            let outcome = outcome_of(&next);
+            drop(next);
+            Ok(outcome)
+        }
+        Err(error) => Err(error),
+    }
 }
 
 // Whether each shorter front of the bytes is undecided.
 fn are_undecided(alloc: Global, bytes: &[u8]) -> Result<bool, AllocError> {
     for len in 0..bytes.len() {
-        if outcome(alloc, wide(), &bytes[..len])? != 0 {
+        if !is_cut_so(alloc, &bytes[..len], 0)? {
             return Ok(false);
         }
     }
     Ok(true)
 }
 
-// The place of the first text that is not cut as told by `outcome`, or how many there are.
-fn cut_so(alloc: Global, rows: &[(&str, usize)]) -> Result<usize, AllocError> {
-    for at in 0..rows.len() {
-        let (text, wanted) = rows[at];
-        if outcome(alloc, wide(), text.as_bytes())? != wanted {
-            return Ok(at);
+fn is_cut_so(alloc: Global, bytes: &[u8], wanted: usize) -> Result<bool, AllocError> {
+    match outcome(alloc, wide(), bytes) {
+        Ok(found) => Ok(found == wanted),
+        Err(error) => Err(error),
+    }
+}
+
+// Whether each text is cut as told by `outcome`.
+fn are_cut_so(alloc: Global, rows: &[(&str, usize)]) -> Result<bool, AllocError> {
+    for (text, wanted) in rows {
+        if !is_cut_so(alloc, text.as_bytes(), *wanted)? {
+            return Ok(false);
         }
     }
-    Ok(rows.len())
+    Ok(true)
 }
 
 #[test]
 fn a_head_byte_by_byte(rt: HostRuntime) -> Result<(), Fail> {
     let alloc = rt.alloc();
-    let text = "GET / HTTP/1.1\r\n\r\n";
-    assert!(rt; are_undecided(alloc, text.as_bytes())?);
-    assert_eq!(rt; cut_so(alloc, &[(text, 1018)])?, 1);
-    Ok(())
+    let bytes = b"GET / HTTP/1.1\r\n\r\n";
+    hold(
+        &rt,
+        &[are_undecided(alloc, bytes), is_cut_so(alloc, bytes, 1018)],
+    )
 }
 
 #[test]
 fn empty_lines_before_a_head_are_passed_over(rt: HostRuntime) -> Result<(), Fail> {
-    let alloc = rt.alloc();
     let rows = [
         ("\r\n\n\r\nGET / HTTP/1.1\nA: b\n\n", 1026),
         ("\r", 0),
         ("\r\rGET / HTTP/1.1\r\n\r\n", 400),
     ];
-    assert_eq!(rt; cut_so(alloc, &rows)?, 3);
-    Ok(())
+    holds(&rt, are_cut_so(rt.alloc(), &rows))
 }
 
 #[test]
 fn heads_of_no_request_are_refused(rt: HostRuntime) -> Result<(), Fail> {
-    let alloc = rt.alloc();
     let rows = [
         ("G@T / HTTP/1.1\r\n\r\n", 400),
         ("GET / HTTP/1.1\r\nA: b\r\n c\r\n\r\n", 400),
@@ -80,13 +92,11 @@ fn heads_of_no_request_are_refused(rt: HostRuntime) -> Result<(), Fail> {
         ("GET / HTTP/2.0\r\n\r\n", 400),
         ("GET / HTTP/1.1\r\nA: b\rc\r\n\r\n", 400),
     ];
-    assert_eq!(rt; cut_so(alloc, &rows)?, 5);
-    Ok(())
+    holds(&rt, are_cut_so(rt.alloc(), &rows))
 }
 
 #[test]
 fn bodies_of_unclear_length_are_refused(rt: HostRuntime) -> Result<(), Fail> {
-    let alloc = rt.alloc();
     let rows = [
         (
             "POST / HTTP/1.1\r\nHost: a\r\nContent-Length: 1\r\nTransfer-Encoding: chunked\r\n\r\n",
@@ -103,13 +113,11 @@ fn bodies_of_unclear_length_are_refused(rt: HostRuntime) -> Result<(), Fail> {
             1047,
         ),
     ];
-    assert_eq!(rt; cut_so(alloc, &rows)?, 5);
-    Ok(())
+    holds(&rt, are_cut_so(rt.alloc(), &rows))
 }
 
 #[test]
 fn bodies_above_the_limit_are_refused(rt: HostRuntime) -> Result<(), Fail> {
-    let alloc = rt.alloc();
     let rows = [
         ("POST / HTTP/1.1\r\nContent-Length: 1048577\r\n\r\n", 413),
         (
@@ -121,8 +129,7 @@ fn bodies_above_the_limit_are_refused(rt: HostRuntime) -> Result<(), Fail> {
             413,
         ),
     ];
-    assert_eq!(rt; cut_so(alloc, &rows)?, 3);
-    Ok(())
+    holds(&rt, are_cut_so(rt.alloc(), &rows))
 }
 
 // A text, so many times.
@@ -133,11 +140,30 @@ fn repeated(out: &mut Octets, text: &str, times: u8) -> Result<(), AllocError> {
     Ok(())
 }
 
-// A front, a text so many times, and an end.
+// To the text go a front, a text so many times, and an end.
 fn add_parts(out: &mut Octets, parts: (&str, &str, u8, &str)) -> Result<(), AllocError> {
     add(out, parts.0.as_bytes())?;
     repeated(out, parts.1, parts.2)?;
     add(out, parts.3.as_bytes())
+}
+
+// A front, a text so many times, and an end.
+fn of_parts(alloc: Global, parts: (&str, &str, u8, &str)) -> Result<Octets, AllocError> {
+    let mut bytes = empty(alloc);
+    add_parts(&mut bytes, parts)?;
+    Ok(bytes)
+}
+
+fn is_cut(
+    alloc: Global,
+    limits: Limits,
+    bytes: &Octets,
+    wanted: usize,
+) -> Result<bool, AllocError> {
+    match outcome(alloc, limits, bytes.as_bytes()) {
+        Ok(found) => Ok(found == wanted),
+        Err(error) => Err(error),
+    }
 }
 
 // Whether a front, a text so many times, and an end are cut so.
@@ -147,34 +173,38 @@ fn are_cut(
     parts: (&str, &str, u8, &str),
     wanted: usize,
 ) -> Result<bool, AllocError> {
-    let mut bytes = empty(alloc);
-    add_parts(&mut bytes, parts)?;
-    Ok(outcome(alloc, limits, bytes.as_bytes())? == wanted)
+    match of_parts(alloc, parts) {
+        Ok(bytes) => {
+            let shown = is_cut(alloc, limits, &bytes, wanted);
+            drop(bytes);
+            shown
+        }
+        Err(error) => Err(error),
+    }
 }
 
 // Whether heads of 63 and 64 bytes are cut by a limit of 64.
 fn are_cut_by_bytes(alloc: Global) -> Result<bool, AllocError> {
     let header = "GET / HTTP/1.1\r\nA: ";
-    Ok(
-        are_cut(alloc, limits(64, 1), (header, "x", 44, ""), 0)?
-            && are_cut(alloc, limits(64, 1), (header, "x", 45, ""), 431)?,
-    )
+    every(&[
+        are_cut(alloc, limits(64, 1), (header, "x", 44, ""), 0),
+        are_cut(alloc, limits(64, 1), (header, "x", 45, ""), 431),
+    ])
 }
 
 // Whether heads of 96 header lines and of 97 are cut by the limit of lines.
 fn are_cut_by_lines(alloc: Global) -> Result<bool, AllocError> {
     let line = "GET / HTTP/1.1\r\n";
-    Ok(
-        are_cut(alloc, wide(), (line, "a:\r\n", 96, "\r\n"), 1402)?
-            && are_cut(alloc, wide(), (line, "a:\r\n", 97, "\r\n"), 431)?,
-    )
+    every(&[
+        are_cut(alloc, wide(), (line, "a:\r\n", 96, "\r\n"), 1402),
+        are_cut(alloc, wide(), (line, "a:\r\n", 97, "\r\n"), 431),
+    ])
 }
 
 #[test]
 fn heads_at_the_limit(rt: HostRuntime) -> Result<(), Fail> {
-    assert!(rt; are_cut_by_bytes(rt.alloc())?);
-    assert!(rt; are_cut_by_lines(rt.alloc())?);
-    Ok(())
+    let alloc = rt.alloc();
+    hold(&rt, &[are_cut_by_bytes(alloc), are_cut_by_lines(alloc)])
 }
 
 // Whether the limits are these.
@@ -191,7 +221,14 @@ fn is_framed_head(next: &NextHead, wanted: Framing) -> bool {
 
 // Whether the body of the request is framed so.
 fn is_framed(alloc: Global, bytes: &[u8], wanted: Framing) -> Result<bool, AllocError> {
-    Ok(is_framed_head(&next_head(alloc, limits(512, 9), bytes)?, wanted))
+    match next_head(alloc, limits(512, 9), bytes) {
+        Ok(next) => {
+            let shown = is_framed_head(&next, wanted);
+            drop(next);
+            Ok(shown)
+        }
+        Err(error) => Err(error),
+    }
 }
 
 fn is_empty(alloc: Global) -> Result<bool, AllocError> {
@@ -210,9 +247,15 @@ fn is_chunked(alloc: Global) -> Result<bool, AllocError> {
 
 #[test]
 fn framings(rt: HostRuntime) -> Result<(), Fail> {
-    assert!(rt; are_limits(limits(512, 9), 512, 9));
-    assert!(rt; is_empty(rt.alloc())?);
-    assert!(rt; is_sized(rt.alloc())?);
-    assert!(rt; is_chunked(rt.alloc())?);
-    Ok(())
+    let alloc = rt.alloc();
+    let are_kept = are_limits(limits(512, 9), 512, 9);
+    hold(
+        &rt,
+        &[
+            Ok(are_kept),
+            is_empty(alloc),
+            is_sized(alloc),
+            is_chunked(alloc),
+        ],
+    )
 }

@@ -1,6 +1,7 @@
 //! Responses written.
-use crate::bytes::{empty, is};
+use crate::bytes::{empty, is_made};
 use crate::headers::{list_of, value_of};
+use crate::shown::{every, hold, holds};
 use http::method::Method;
 use http_header::VARY;
 use http1_plain::{
@@ -27,34 +28,42 @@ fn refusals_and_more(alloc: Global) -> Result<Octets, AllocError> {
 }
 
 fn is_refusal(alloc: Global) -> Result<bool, AllocError> {
-    Ok(is(
-        &refusal(alloc)?,
+    is_made(
+        &refusal(alloc),
         b"HTTP/1.1 400 Bad Request\r\ncontent-length: 0\r\nconnection: close\r\n\r\n",
-    ))
+    )
+}
+
+fn are_refusals_and_more(alloc: Global) -> Result<bool, AllocError> {
+    is_made(
+        &refusals_and_more(alloc),
+        b"HTTP/1.1 431 Request Header Fields Too Large\r\ncontent-length: 0\r\nconnection: close\r\n\r\nHTTP/1.1 413 Payload Too Large\r\ncontent-length: 0\r\nconnection: close\r\n\r\nHTTP/1.1 100 Continue\r\n\r\n",
+    )
 }
 
 #[test]
 fn refusals(rt: HostRuntime) -> Result<(), Fail> {
-    assert!(rt; is_refusal(rt.alloc())?);
-    assert!(rt;
-        is(
-            &refusals_and_more(rt.alloc())?,
-            b"HTTP/1.1 431 Request Header Fields Too Large\r\ncontent-length: 0\r\nconnection: close\r\n\r\nHTTP/1.1 413 Payload Too Large\r\ncontent-length: 0\r\nconnection: close\r\n\r\nHTTP/1.1 100 Continue\r\n\r\n"
-        )
-    );
-    Ok(())
+    let alloc = rt.alloc();
+    hold(&rt, &[is_refusal(alloc), are_refusals_and_more(alloc)])
+}
+
+// What a response is written for: the method of its request, the version, and whether the connection is closed.
+type Asked<'a> = (&'a Method, HttpVersion, bool);
+
+fn written(alloc: Global, response: &Response, asked: Asked) -> Result<Octets, AllocError> {
+    let mut out = empty(alloc);
+    write_response(&mut out, asked.0, asked.1, response, asked.2)?;
+    Ok(out)
 }
 
 // Whether the response is written so.
 fn is_written(
     response: &Response,
-    asked: (&Method, HttpVersion, bool),
+    asked: Asked,
     alloc: Global,
     text: &[u8],
 ) -> Result<bool, AllocError> {
-    let mut out = empty(alloc);
-    write_response(&mut out, asked.0, asked.1, response, asked.2)?;
-    Ok(is(&out, text))
+    is_made(&written(alloc, response, asked), text)
 }
 
 // The headers of a page, and one that only the connection may write.
@@ -69,47 +78,75 @@ fn page_headers(alloc: Global) -> Result<HeaderList, AllocError> {
     )
 }
 
+fn set_headers(alloc: Global, response: &mut Response) -> Result<(), AllocError> {
+    match page_headers(alloc) {
+        Ok(headers) => Ok(response.set_headers(headers)),
+        Err(error) => Err(error),
+    }
+}
+
+fn set_body(alloc: Global, response: &mut Response) -> Result<(), AllocError> {
+    match Octets::of(alloc, b"Hello world!") {
+        Ok(body) => Ok(response.set_body(body)),
+        Err(error) => Err(error),
+    }
+}
+
+// The response becomes a page.
+fn write_page(alloc: Global, response: &mut Response) -> Result<(), AllocError> {
+    set_headers(alloc, response)?;
+    set_body(alloc, response)
+}
+
 // 200 with a page.
 fn page(alloc: Global) -> Result<Response, AllocError> {
-    let headers = page_headers(alloc)?;
-    let body = Octets::of(alloc, b"Hello world!")?;
     let mut response = Response::new(alloc, 200);
-    response.set_headers(headers);
-    response.set_body(body);
+    write_page(alloc, &mut response)?;
     Ok(response)
 }
 
 // Whether the page is written so.
-fn is_page(
-    alloc: Global,
-    asked: (&Method, HttpVersion, bool),
-    text: &[u8],
-) -> Result<bool, AllocError> {
-    is_written(&page(alloc)?, asked, alloc, text)
+fn is_page(alloc: Global, asked: Asked, text: &[u8]) -> Result<bool, AllocError> {
+    match page(alloc) {
+        Ok(page) => {
+            let shown = is_written(&page, asked, alloc, text);
+            drop(page);
+            shown
+        }
+        Err(error) => Err(error),
+    }
 }
 
 #[test]
 fn an_answer_to_head_has_no_body(rt: HostRuntime) -> Result<(), Fail> {
-    assert!(rt;
+    holds(
+        &rt,
         is_page(
             rt.alloc(),
             (&Method::HEAD, HttpVersion::Http11, false),
-            b"HTTP/1.1 200 OK\r\ncontent-type: text/plain\r\nvary: Origin\r\ncontent-length: 12\r\n\r\n"
-        )?
-    );
-    Ok(())
+            b"HTTP/1.1 200 OK\r\ncontent-type: text/plain\r\nvary: Origin\r\ncontent-length: 12\r\n\r\n",
+        ),
+    )
 }
 
 #[test]
 fn an_old_client_is_told_that_the_connection_stays(rt: HostRuntime) -> Result<(), Fail> {
-    assert!(rt;
+    holds(
+        &rt,
         is_page(
             rt.alloc(),
             (&Method::GET, HttpVersion::Http10, false),
-            b"HTTP/1.1 200 OK\r\ncontent-type: text/plain\r\nvary: Origin\r\ncontent-length: 12\r\nconnection: keep-alive\r\n\r\nHello world!"
-        )?
-    );
-    Ok(())
+            b"HTTP/1.1 200 OK\r\ncontent-type: text/plain\r\nvary: Origin\r\ncontent-length: 12\r\nconnection: keep-alive\r\n\r\nHello world!",
+        ),
+    )
+}
+
+// An empty response, where there is such a status.
+fn empty_response(alloc: Global, status: u16) -> Option<Response> {
+    if status < 200 || status > 999 {
+        return None;
+    }
+    Some(Response::new(alloc, status))
 }
 
 // Whether an empty response of the status is written so, to a request of this version.
@@ -119,37 +156,39 @@ fn is_empty_response(
     told: (HttpVersion, bool),
     text: &str,
 ) -> Result<bool, AllocError> {
-    if status < 200 || status > 999 {
-        return Ok(false);
-    }
-    let response = Response::new(alloc, status);
     let asked = (&Method::GET, told.0, told.1);
-    is_written(&response, asked, alloc, text.as_bytes())
+    match empty_response(alloc, status) {
+        Some(response) => {
+            let shown = is_written(&response, asked, alloc, text.as_bytes());
+            drop(response);
+            shown
+        }
+        None => Ok(false),
+    }
 }
 
 fn has_no_content(alloc: Global) -> Result<bool, AllocError> {
     let stays = "HTTP/1.1 204 No Content\r\nconnection: keep-alive\r\n\r\n";
     let closes = "HTTP/1.1 204 No Content\r\nconnection: close\r\n\r\n";
-    Ok(
-        is_empty_response(alloc, 204, (HttpVersion::Http10, false), stays)?
-            && is_empty_response(alloc, 204, (HttpVersion::Http10, true), closes)?,
-    )
+    every(&[
+        is_empty_response(alloc, 204, (HttpVersion::Http10, false), stays),
+        is_empty_response(alloc, 204, (HttpVersion::Http10, true), closes),
+    ])
 }
 
 fn has_empty_content(alloc: Global) -> Result<bool, AllocError> {
     let reset = "HTTP/1.1 205 Reset Content\r\ncontent-length: 0\r\n\r\n";
     let unknown = "HTTP/1.1 999 \r\ncontent-length: 0\r\n\r\n";
-    Ok(
-        is_empty_response(alloc, 205, (HttpVersion::Http11, false), reset)?
-            && is_empty_response(alloc, 999, (HttpVersion::Http11, false), unknown)?,
-    )
+    every(&[
+        is_empty_response(alloc, 205, (HttpVersion::Http11, false), reset),
+        is_empty_response(alloc, 999, (HttpVersion::Http11, false), unknown),
+    ])
 }
 
 #[test]
 fn statuses_without_a_body(rt: HostRuntime) -> Result<(), Fail> {
-    assert!(rt; has_no_content(rt.alloc())?);
-    assert!(rt; has_empty_content(rt.alloc())?);
-    Ok(())
+    let alloc = rt.alloc();
+    hold(&rt, &[has_no_content(alloc), has_empty_content(alloc)])
 }
 
 // The response varies by `Origin`.
@@ -182,11 +221,24 @@ fn is_written_so(alloc: Global, response: &Response) -> Result<bool, AllocError>
 
 // Whether the text has the header, and is written with it.
 fn is_changed(alloc: Global, response: &Response) -> Result<bool, AllocError> {
-    Ok(has_parts(response, 404, 1, b"no such page") && is_written_so(alloc, response)?)
+    every(&[
+        Ok(has_parts(response, 404, 1, b"no such page")),
+        is_written_so(alloc, response),
+    ])
+}
+
+fn no_such_page_is_changed(alloc: Global) -> Result<bool, AllocError> {
+    match no_such_page(alloc) {
+        Ok(response) => {
+            let shown = is_changed(alloc, &response);
+            drop(response);
+            shown
+        }
+        Err(error) => Err(error),
+    }
 }
 
 #[test]
 fn a_response_is_changed(rt: HostRuntime) -> Result<(), Fail> {
-    assert!(rt; is_changed(rt.alloc(), &no_such_page(rt.alloc())?)?);
-    Ok(())
+    holds(&rt, no_such_page_is_changed(rt.alloc()))
 }

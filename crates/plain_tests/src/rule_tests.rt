@@ -1,4 +1,5 @@
 //! Errors in words, and sets.
+use crate::shown::hold;
 use cors_rules::laws::{
     credentials_have_no_wildcard, equality_is_an_equivalence, grants_stand_alone,
     only_granted_origins_are_told, refusals_have_their_causes, requests_with_no_origin_pass,
@@ -18,44 +19,62 @@ fn is_fault(error: ConfigError, text: &str) -> bool {
     error.text() == text
 }
 
+fn is_text(printed: &String, text: &str) -> bool {
+    printed.as_str() == text
+}
+
 // Whether an answer's error is printed so.
 fn prints_error(alloc: Global, error: CorsError, text: &str) -> Result<bool, AllocError> {
-    let printed = format!(in alloc; "{error}")?;
-    Ok(printed.as_str() == text)
+    match format!(in alloc; "{error}") {
+        Ok(printed) => Ok(is_text(&printed, text)),
+        Err(error) => Err(error),
+    }
 }
 
 // Whether a builder's error is printed so.
 fn prints_fault(alloc: Global, error: ConfigError, text: &str) -> Result<bool, AllocError> {
-    let printed = format!(in alloc; "{error}")?;
-    Ok(printed.as_str() == text)
+    match format!(in alloc; "{error}") {
+        Ok(printed) => Ok(is_text(&printed, text)),
+        Err(error) => Err(error),
+    }
+}
+
+fn errors_are_printed(alloc: Global) -> Result<bool, AllocError> {
+    prints_error(
+        alloc,
+        CorsError::HeadersNotAllowed,
+        "One or more request headers are not allowed",
+    )
+}
+
+fn faults_are_printed(alloc: Global) -> Result<bool, AllocError> {
+    prints_fault(
+        alloc,
+        ConfigError::WildcardOrigin,
+        "`allowed_origin` argument must not be wildcard (`*`)",
+    )
+}
+
+fn missing_origin_is_told() -> bool {
+    is_error(
+        CorsError::MissingOrigin,
+        "Request header `Origin` is required but was not provided",
+    )
 }
 
 #[test]
 fn errors_are_printed_by_their_texts(rt: HostRuntime) -> Result<(), Fail> {
     let alloc = rt.alloc();
-    assert!(rt;
-        is_error(
-            CorsError::MissingOrigin,
-            "Request header `Origin` is required but was not provided"
-        )
-    );
-    assert!(rt;
-        prints_error(
-            alloc,
-            CorsError::HeadersNotAllowed,
-            "One or more request headers are not allowed"
-        )?
-    );
-    assert!(rt; CorsError::MethodNotAllowed.status_code() == 400);
-    assert!(rt; is_fault(ConfigError::BadOriginUri, "allowed origin is not a URI"));
-    assert!(rt;
-        prints_fault(
-            alloc,
-            ConfigError::WildcardOrigin,
-            "`allowed_origin` argument must not be wildcard (`*`)"
-        )?
-    );
-    Ok(())
+    hold(
+        &rt,
+        &[
+            Ok(missing_origin_is_told()),
+            errors_are_printed(alloc),
+            Ok(CorsError::MethodNotAllowed.status_code() == 400),
+            Ok(is_fault(ConfigError::BadOriginUri, "allowed origin is not a URI")),
+            faults_are_printed(alloc),
+        ],
+    )
 }
 
 // Whether everything is not some.
