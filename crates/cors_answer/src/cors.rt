@@ -81,7 +81,10 @@ impl<G: OriginRule> Cors<G> {
     {
         match added {
             Ok(()) => Ok(self),
-            Err(error) => Err(error),
+            Err(error) => {
+                drop(self);
+                Err(error)
+            }
         }
     }
 

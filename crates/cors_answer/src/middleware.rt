@@ -91,18 +91,14 @@ where
 
     fn call(&self, req: Request) -> CorsFuture<S::Future, G> {
         match decide(&self.policy, self.alloc, &req.head) {
-            Err(_) => CorsFuture {
-                alloc: self.alloc,
-                state: State::Here {
-                    answer: Some(Err(CorsFault::Memory)),
-                },
-            },
-            Ok(Verdict::Answered(response)) => CorsFuture {
-                alloc: self.alloc,
-                state: State::Here {
-                    answer: Some(Ok(response)),
-                },
-            },
+            Err(_) => {
+                drop(req);
+                CorsFuture::at_once(self.alloc, Err(CorsFault::Memory))
+            }
+            Ok(Verdict::Answered(response)) => {
+                drop(req);
+                CorsFuture::at_once(self.alloc, Ok(response))
+            }
             Ok(Verdict::HandedOn(grant)) => match Arc::try_clone(&self.policy) {
                 Ok(policy) => CorsFuture {
                     alloc: self.alloc,
@@ -112,12 +108,11 @@ where
                         grant,
                     },
                 },
-                Err(_) => CorsFuture {
-                    alloc: self.alloc,
-                    state: State::Here {
-                        answer: Some(Err(CorsFault::Memory)),
-                    },
-                },
+                Err(_) => {
+                    drop(req);
+                    drop(grant);
+                    CorsFuture::at_once(self.alloc, Err(CorsFault::Memory))
+                }
             },
         }
     }
