@@ -1,4 +1,5 @@
 //! Runs of the program by words that are no form, and of each call of a source or a sink that fails.
+use crate::shown::{every, hold, holds};
 use server_program::{MemorySink, MemorySource, run};
 use server_run::Host;
 use service_core::Octets;
@@ -38,13 +39,31 @@ fn said(alloc: Global, words: &[&str]) -> Result<Vec<Octets>, AllocError> {
     Ok(list)
 }
 
-fn source_of(alloc: Global, script: &[u8], read: u64) -> Result<MemorySource, AllocError> {
-    let script = Octets::of(alloc, script)?;
-    Ok(MemorySource::new(script, vec![in alloc; read]?))
+fn failing_source(alloc: Global, script: Octets, read: u64) -> Result<MemorySource, AllocError> {
+    match vec![in alloc; read] {
+        Ok(fails) => Ok(MemorySource::new(script, fails)),
+        Err(_) => Err(AllocError),
+    }
 }
 
-fn sink_of(alloc: Global, room: usize, write: u64) -> Result<MemorySink, AllocError> {
-    MemorySink::new(alloc, room, vec![in alloc; write]?)
+/// A source of these bytes, whose read of this number fails.
+pub(crate) fn source_of(
+    alloc: Global,
+    script: &[u8],
+    read: u64,
+) -> Result<MemorySource, AllocError> {
+    match Octets::of(alloc, script) {
+        Ok(script) => failing_source(alloc, script, read),
+        Err(error) => Err(error),
+    }
+}
+
+/// A sink with so much room, whose write of this number fails.
+pub(crate) fn sink_of(alloc: Global, room: usize, write: u64) -> Result<MemorySink, AllocError> {
+    match vec![in alloc; write] {
+        Ok(fails) => MemorySink::new(alloc, room, fails),
+        Err(_) => Err(AllocError),
+    }
 }
 
 // The status of a run that had enough memory, and what the sink got.
@@ -62,8 +81,36 @@ fn status_of<Ho: Host>(
     source: &mut MemorySource,
     sink: &mut MemorySink,
 ) -> Result<u8, AllocError> {
-    let said = said(alloc, words)?;
-    Ok(run(rt, alloc, &said, source, sink))
+    match said(alloc, words) {
+        Ok(said) => Ok(run(rt, alloc, &said, source, sink)),
+        Err(error) => Err(error),
+    }
+}
+
+fn replayed_between<Ho: Host>(
+    rt: &Ho,
+    alloc: Global,
+    words: &[&str],
+    source: &mut MemorySource,
+    sink: &mut MemorySink,
+) -> Result<(u8, Octets), AllocError> {
+    match status_of(rt, alloc, words, source, sink) {
+        Ok(status) => told(alloc, status, sink.got()),
+        Err(error) => Err(error),
+    }
+}
+
+fn replayed_from<Ho: Host>(
+    rt: &Ho,
+    alloc: Global,
+    words: &[&str],
+    source: &mut MemorySource,
+    faults: Faults,
+) -> Result<(u8, Octets), AllocError> {
+    match sink_of(alloc, faults.room, faults.write) {
+        Ok(mut sink) => replayed_between(rt, alloc, words, source, &mut sink),
+        Err(error) => Err(error),
+    }
 }
 
 // The status of a run, and what the sink got.
@@ -74,10 +121,14 @@ fn replayed<Ho: Host + AllocGlobal>(
     faults: Faults,
 ) -> Result<(u8, Octets), AllocError> {
     let alloc = rt.alloc();
-    let mut source = source_of(alloc, script, faults.read)?;
-    let mut sink = sink_of(alloc, faults.room, faults.write)?;
-    let status = status_of(rt, alloc, words, &mut source, &mut sink)?;
-    told(alloc, status, sink.got())
+    match source_of(alloc, script, faults.read) {
+        Ok(mut source) => replayed_from(rt, alloc, words, &mut source, faults),
+        Err(error) => Err(error),
+    }
+}
+
+fn is_end(told: &(u8, Octets), wanted: (u8, &str)) -> bool {
+    told.0 == wanted.0 && told.1.as_bytes() == wanted.1.as_bytes()
 }
 
 // Whether a run of these words ends with the status and the text.
@@ -87,25 +138,35 @@ fn ends<Ho: Host + AllocGlobal>(
     faults: Faults,
     wanted: (u8, &str),
 ) -> Result<bool, AllocError> {
-    let (status, got) = replayed(rt, words, b"listener", faults)?;
-    Ok(status == wanted.0 && got.as_bytes() == wanted.1.as_bytes())
+    match replayed(rt, words, b"listener", faults) {
+        Ok(told) => Ok(is_end(&told, wanted)),
+        Err(error) => Err(error),
+    }
 }
 
 const USAGE: &str = "usage: replay | listen ADDR N | generate N K\n";
 
 #[test]
 fn words_that_are_no_form_are_answered_with_the_usage(rt: HostRuntime) -> Result<(), Fail> {
-    assert!(rt; ends(&rt, &["replay", "now"], none(), (2, USAGE))?);
-    assert!(rt; ends(&rt, &[], none(), (2, USAGE))?);
-    assert!(rt; ends(&rt, &["--help"], none(), (2, USAGE))?);
-    Ok(())
+    hold(
+        &rt,
+        &[
+            ends(&rt, &["replay", "now"], none(), (2, USAGE)),
+            ends(&rt, &[], none(), (2, USAGE)),
+            ends(&rt, &["--help"], none(), (2, USAGE)),
+        ],
+    )
 }
 
 #[test]
 fn a_read_that_fails_and_a_write_that_fails_are_told_apart(rt: HostRuntime) -> Result<(), Fail> {
-    assert!(rt; ends(&rt, &["replay"], fails(1, NEVER), (5, "read failed\n"))?);
-    assert!(rt; ends(&rt, &["replay"], fails(NEVER, 0), (6, ""))?);
-    Ok(())
+    hold(
+        &rt,
+        &[
+            ends(&rt, &["replay"], fails(1, NEVER), (5, "read failed\n")),
+            ends(&rt, &["replay"], fails(NEVER, 0), (6, "")),
+        ],
+    )
 }
 
 #[test]
@@ -115,8 +176,7 @@ fn a_sink_with_too_little_room_gets_the_front_of_the_text(rt: HostRuntime) -> Re
         write: NEVER,
         room: 10,
     };
-    assert!(rt; ends(&rt, &["replay"], ten, (6, "listener 0"))?);
-    Ok(())
+    holds(&rt, ends(&rt, &["replay"], ten, (6, "listener 0")))
 }
 
 const GET: &[u8] =
@@ -129,8 +189,10 @@ fn has_status<Ho: Host + AllocGlobal>(
     write: u64,
     wanted: u8,
 ) -> Result<bool, AllocError> {
-    let (status, _) = replayed(rt, &["replay"], GET, fails(read, write))?;
-    Ok(status == wanted)
+    match replayed(rt, &["replay"], GET, fails(read, write)) {
+        Ok(told) => Ok(told.0 == wanted),
+        Err(error) => Err(error),
+    }
 }
 
 // Whether each of six reads that fails is told. One read gives the script, and one more finds its end.
@@ -146,8 +208,7 @@ fn tells_reads<Ho: Host + AllocGlobal>(rt: &Ho) -> Result<bool, AllocError> {
 
 #[test]
 fn each_read_that_fails_is_told(rt: HostRuntime) -> Result<(), Fail> {
-    assert!(rt; tells_reads(&rt)?);
-    Ok(())
+    holds(&rt, tells_reads(&rt))
 }
 
 // Whether each of four writes that fails is told, where no read fails and where the first one does. One write takes
@@ -156,7 +217,11 @@ fn tells_writes<Ho: Host + AllocGlobal>(rt: &Ho) -> Result<bool, AllocError> {
     for call in 0..4 {
         let whole = if call == 0 { 6 } else { 0 };
         let failed = if call == 0 { 6 } else { 5 };
-        if !has_status(rt, NEVER, call, whole)? || !has_status(rt, 0, call, failed)? {
+        let are_told = every(&[
+            has_status(rt, NEVER, call, whole),
+            has_status(rt, 0, call, failed),
+        ]);
+        if !are_told? {
             return Ok(false);
         }
     }
@@ -165,6 +230,5 @@ fn tells_writes<Ho: Host + AllocGlobal>(rt: &Ho) -> Result<bool, AllocError> {
 
 #[test]
 fn each_write_that_fails_is_told(rt: HostRuntime) -> Result<(), Fail> {
-    assert!(rt; tells_writes(&rt)?);
-    Ok(())
+    holds(&rt, tells_writes(&rt))
 }

@@ -1,4 +1,5 @@
 //! What a script is read as.
+use crate::shown::{hold, holds, not};
 use cors_answer::Cors;
 use script::{Connection, PlainText, Reading, Script, ScriptRule, build_policy, read_script};
 use service_core::Peer;
@@ -15,16 +16,27 @@ fn has_only_a_listener(reading: &Reading, listening: bool) -> bool {
 
 // The same of a text.
 fn asks_for_a_listener(alloc: Global, text: &str, listening: bool) -> Result<bool, AllocError> {
-    Ok(has_only_a_listener(&read_script(alloc, text.as_bytes())?, listening))
+    match read_script(alloc, text.as_bytes()) {
+        Ok(reading) => {
+            let shown = has_only_a_listener(&reading, listening);
+            drop(reading);
+            Ok(shown)
+        }
+        Err(error) => Err(error),
+    }
 }
 
 #[test]
 fn a_script_asks_for_a_listener(rt: HostRuntime) -> Result<(), Fail> {
     let alloc = rt.alloc();
-    assert!(rt; asks_for_a_listener(alloc, "", false)?);
-    assert!(rt; asks_for_a_listener(alloc, "# listener\n", false)?);
-    assert!(rt; asks_for_a_listener(alloc, "listener", true)?);
-    Ok(())
+    hold(
+        &rt,
+        &[
+            asks_for_a_listener(alloc, "", false),
+            asks_for_a_listener(alloc, "# listener\n", false),
+            asks_for_a_listener(alloc, "listener", true),
+        ],
+    )
 }
 
 fn gives(connection: &Connection, peer: Peer, bytes: &[u8]) -> bool {
@@ -47,7 +59,14 @@ fn is_of_connection(reading: &Reading, peer: Peer, bytes: &[u8]) -> bool {
 
 // Whether a script has a connection of this peer that gives these bytes.
 fn connects(alloc: Global, text: &[u8], peer: Peer, bytes: &[u8]) -> Result<bool, AllocError> {
-    Ok(is_of_connection(&read_script(alloc, text)?, peer, bytes))
+    match read_script(alloc, text) {
+        Ok(reading) => {
+            let shown = is_of_connection(&reading, peer, bytes);
+            drop(reading);
+            Ok(shown)
+        }
+        Err(error) => Err(error),
+    }
 }
 
 #[test]
@@ -57,8 +76,7 @@ fn a_script_asks_for_a_connection(rt: HostRuntime) -> Result<(), Fail> {
         host: 0x0a00_0001,
         port: 80,
     };
-    assert!(rt; connects(rt.alloc(), text, peer, b"abcd ")?);
-    Ok(())
+    holds(&rt, connects(rt.alloc(), text, peer, b"abcd "))
 }
 
 // What a `give` line gives.
@@ -76,11 +94,34 @@ const ESCAPES: [(&str, &[u8]); 11] = [
     ("give  a b ", b" a b "),
 ];
 
+// A text in two parts.
+fn joined(alloc: Global, front: &[u8], end: &str) -> Result<Vec<u8>, AllocError> {
+    let mut text = Vec::from_slice(alloc, front)?;
+    text.extend_from_slice(end.as_bytes())?;
+    Ok(text)
+}
+
+// Whether a script that was made has a connection of this peer that gives these bytes.
+fn connects_by(
+    alloc: Global,
+    text: &Result<Vec<u8>, AllocError>,
+    peer: Peer,
+    bytes: &[u8],
+) -> Result<bool, AllocError> {
+    match text {
+        Ok(text) => connects(alloc, text, peer, bytes),
+        Err(error) => Err(*error),
+    }
+}
+
 // Whether the connection with the line holds these bytes.
 fn is_held(alloc: Global, line: &str, wanted: &[u8]) -> Result<bool, AllocError> {
-    let mut script = Vec::from_slice(alloc, b"listener\nconn local\n")?;
-    script.extend_from_slice(line.as_bytes())?;
-    connects(alloc, &script, Peer::Local, wanted)
+    connects_by(
+        alloc,
+        &joined(alloc, b"listener\nconn local\n", line),
+        Peer::Local,
+        wanted,
+    )
 }
 
 // Whether each line gives its bytes.
@@ -95,15 +136,12 @@ fn are_held(alloc: Global, rows: &[(&str, &[u8])]) -> Result<bool, AllocError> {
 
 #[test]
 fn each_escape_stands_for_its_byte(rt: HostRuntime) -> Result<(), Fail> {
-    assert!(rt; are_held(rt.alloc(), &ESCAPES)?);
-    Ok(())
+    holds(&rt, are_held(rt.alloc(), &ESCAPES))
 }
 
 // Whether the text in a `conn` line names the peer.
 fn is_named(alloc: Global, text: &str, peer: Peer) -> Result<bool, AllocError> {
-    let mut script = Vec::from_slice(alloc, b"listener\nconn ")?;
-    script.extend_from_slice(text.as_bytes())?;
-    connects(alloc, &script, peer, b"")
+    connects_by(alloc, &joined(alloc, b"listener\nconn ", text), peer, b"")
 }
 
 // The peer of an address and a port.
@@ -114,42 +152,82 @@ fn v4(host: u32, port: u16) -> Peer {
 #[test]
 fn a_peer_is_local_or_an_address_with_a_port(rt: HostRuntime) -> Result<(), Fail> {
     let alloc = rt.alloc();
-    assert!(rt; is_named(alloc, "local", Peer::Local)?);
-    assert!(rt; is_named(alloc, "0.0.0.0:0", v4(0, 0))?);
-    assert!(rt; is_named(alloc, "1.2.3.4:5", v4(0x0102_0304, 5))?);
-    assert!(rt; is_named(alloc, "127.0.0.1:8080", v4(0x7f00_0001, 8080))?);
-    assert!(rt; is_named(alloc, "255.255.255.255:65535", v4(0xffff_ffff, 65535))?);
-    Ok(())
+    hold(
+        &rt,
+        &[
+            is_named(alloc, "local", Peer::Local),
+            is_named(alloc, "0.0.0.0:0", v4(0, 0)),
+            is_named(alloc, "1.2.3.4:5", v4(0x0102_0304, 5)),
+            is_named(alloc, "127.0.0.1:8080", v4(0x7f00_0001, 8080)),
+            is_named(alloc, "255.255.255.255:65535", v4(0xffff_ffff, 65535)),
+        ],
+    )
 }
 
-// The policy of a script, and the default one of a bad script.
-fn policy_of(alloc: Global, text: &str) -> Result<Cors<ScriptRule>, AllocError> {
-    match read_script(alloc, text.as_bytes())? {
+// A policy that was built.
+type Built = Result<Cors<ScriptRule>, AllocError>;
+
+fn policy_in(alloc: Global, reading: &Reading) -> Built {
+    match reading {
         Reading::Good(script) => build_policy(alloc, &script.policy),
         Reading::BadLine(_) => Ok(Cors::default(alloc)),
     }
 }
 
-fn equals(one: &Cors<ScriptRule>, other: &Cors<ScriptRule>) -> bool {
-    *one == *other
+// The policy of a script, and the default one of a bad script.
+fn policy_of(alloc: Global, text: &str) -> Built {
+    match read_script(alloc, text.as_bytes()) {
+        Ok(reading) => {
+            let policy = policy_in(alloc, &reading);
+            drop(reading);
+            policy
+        }
+        Err(error) => Err(error),
+    }
 }
 
-fn has_policy_of(alloc: Global, one: &Cors<ScriptRule>, other: &str) -> Result<bool, AllocError> {
-    Ok(equals(one, &policy_of(alloc, other)?))
+fn equals(one: &Cors<ScriptRule>, other: &Built) -> Result<bool, AllocError> {
+    match other {
+        Ok(other) => Ok(*one == *other),
+        Err(error) => Err(*error),
+    }
+}
+
+fn are_equal(one: &Built, other: &Built) -> Result<bool, AllocError> {
+    match one {
+        Ok(one) => equals(one, other),
+        Err(error) => Err(*error),
+    }
+}
+
+fn has_policy_of(alloc: Global, one: &Built, other: &str) -> Result<bool, AllocError> {
+    let other = policy_of(alloc, other);
+    let shown = are_equal(one, &other);
+    drop(other);
+    shown
 }
 
 // Whether two scripts have one policy.
 fn have_one_policy(alloc: Global, one: &str, other: &str) -> Result<bool, AllocError> {
-    has_policy_of(alloc, &policy_of(alloc, one)?, other)
+    let one = policy_of(alloc, one);
+    let shown = has_policy_of(alloc, &one, other);
+    drop(one);
+    shown
 }
 
-fn has_no_error(cors: &Cors<ScriptRule>) -> bool {
-    cors.error().is_none()
+fn has_no_error(cors: &Built) -> Result<bool, AllocError> {
+    match cors {
+        Ok(cors) => Ok(cors.error().is_none()),
+        Err(error) => Err(*error),
+    }
 }
 
 // Whether the policy of a script is without an error.
 fn is_sound(alloc: Global, text: &str) -> Result<bool, AllocError> {
-    Ok(has_no_error(&policy_of(alloc, text)?))
+    let policy = policy_of(alloc, text);
+    let shown = has_no_error(&policy);
+    drop(policy);
+    shown
 }
 
 const TWO: &str = "origin https://b.example\norigin https://a.example\n";
@@ -158,20 +236,25 @@ const TWO: &str = "origin https://b.example\norigin https://a.example\n";
 fn origin_lines_make_a_policy(rt: HostRuntime) -> Result<(), Fail> {
     let alloc = rt.alloc();
     let reversed = "origin https://a.example\n\norigin https://b.example";
-    assert!(rt; have_one_policy(alloc, TWO, reversed)?);
-    assert!(rt; !have_one_policy(alloc, TWO, "origin https://a.example")?);
-    assert!(rt; is_sound(alloc, TWO)?);
-    Ok(())
+    hold(
+        &rt,
+        &[
+            have_one_policy(alloc, TWO, reversed),
+            not(have_one_policy(alloc, TWO, "origin https://a.example")),
+            is_sound(alloc, TWO),
+        ],
+    )
 }
 
 // Whether a plain text is made of these bytes, and is this text.
 fn is_plain_text(alloc: Global, text: &str) -> Result<bool, AllocError> {
-    let plain = PlainText::of(alloc, b" a~")?;
-    Ok(plain.as_str() == text)
+    match PlainText::of(alloc, b" a~") {
+        Ok(plain) => Ok(plain.as_str() == text),
+        Err(error) => Err(error),
+    }
 }
 
 #[test]
 fn a_plain_text_is_its_bytes(rt: HostRuntime) -> Result<(), Fail> {
-    assert!(rt; is_plain_text(rt.alloc(), " a~")?);
-    Ok(())
+    holds(&rt, is_plain_text(rt.alloc(), " a~"))
 }

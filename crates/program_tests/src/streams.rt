@@ -1,4 +1,6 @@
 //! Sources and sinks in memory, and what reads and writes through them.
+use crate::runs::{sink_of, source_of};
+use crate::shown::{every, hold, holds};
 use server_program::{
     MemorySink, MemorySource, ReadError, Sink, Source, Streams, read_whole, write_all,
 };
@@ -11,44 +13,77 @@ fn reads(source: &mut MemorySource, buf: &mut [u8; 4], count: Option<usize>, lef
     source.read(buf).ok() == count && buf.as_slice() == left
 }
 
-#[test]
-fn a_source_in_memory_fails_where_it_is_told_to(rt: HostRuntime) -> Result<(), Fail> {
-    let alloc = rt.alloc();
-    let bytes = Octets::of(alloc, b"abcdef")?;
-    let mut source = MemorySource::new(bytes, vec![in alloc; 1]?);
+fn reads_six(source: &mut MemorySource) -> Result<bool, AllocError> {
     let mut buf = [0; 4];
-    assert!(rt; reads(&mut source, &mut buf, Some(4), b"abcd"));
-    assert!(rt; reads(&mut source, &mut buf, None, b"abcd"));
-    assert!(rt; reads(&mut source, &mut buf, Some(2), b"efcd"));
-    assert!(rt; reads(&mut source, &mut buf, Some(0), b"efcd"));
-    Ok(())
+    every(&[
+        Ok(reads(source, &mut buf, Some(4), b"abcd")),
+        Ok(reads(source, &mut buf, None, b"abcd")),
+        Ok(reads(source, &mut buf, Some(2), b"efcd")),
+        Ok(reads(source, &mut buf, Some(0), b"efcd")),
+    ])
 }
 
-// The bytes of a source whose read of this number fails, if it can be read.
-fn read_of(alloc: Global, bytes: &[u8], fail: u64) -> Result<Option<Octets>, AllocError> {
-    let mut source = MemorySource::new(Octets::of(alloc, bytes)?, vec![in alloc; fail]?);
-    match read_whole(alloc, &mut source) {
-        Ok(read) => Ok(Some(read)),
-        Err(ReadError::Failed) => Ok(None),
+// Whether six bytes are read from a source whose second read fails.
+fn six_are_read(alloc: Global) -> Result<bool, AllocError> {
+    match source_of(alloc, b"abcdef", 1) {
+        Ok(mut source) => reads_six(&mut source),
+        Err(error) => Err(error),
+    }
+}
+
+#[test]
+fn a_source_in_memory_fails_where_it_is_told_to(rt: HostRuntime) -> Result<(), Fail> {
+    holds(&rt, six_are_read(rt.alloc()))
+}
+
+// Whether these bytes were read whole, or, as told, nothing.
+fn is_whole(
+    read: &Result<Octets, ReadError>,
+    bytes: &[u8],
+    whole: bool,
+) -> Result<bool, AllocError> {
+    match read {
+        Ok(read) => Ok(whole && read.as_bytes() == bytes),
+        Err(ReadError::Failed) => Ok(!whole),
         Err(ReadError::Memory) => Err(AllocError),
     }
 }
 
+fn is_read_of(
+    alloc: Global,
+    source: &mut MemorySource,
+    bytes: &[u8],
+    whole: bool,
+) -> Result<bool, AllocError> {
+    is_whole(&read_whole(alloc, source), bytes, whole)
+}
+
 // Whether a source whose read of this number fails is read whole, or not at all.
 fn is_read(alloc: Global, bytes: &[u8], fail: u64, whole: bool) -> Result<bool, AllocError> {
-    match read_of(alloc, bytes, fail)? {
-        Some(read) => Ok(whole && read.as_bytes() == bytes),
-        None => Ok(!whole),
+    match source_of(alloc, bytes, fail) {
+        Ok(mut source) => is_read_of(alloc, &mut source, bytes, whole),
+        Err(error) => Err(error),
+    }
+}
+
+fn reads_whole_or_not(alloc: Global, bytes: &[u8]) -> Result<bool, AllocError> {
+    every(&[
+        is_read(alloc, bytes, u64::MAX, true),
+        is_read(alloc, bytes, 2, false),
+    ])
+}
+
+// Whether ten thousand bytes are read whole, or not at all.
+fn many_are_read(alloc: Global) -> Result<bool, AllocError> {
+    match vec![in alloc; 7u8; 10_000] {
+        Ok(long) => reads_whole_or_not(alloc, &long),
+        Err(error) => Err(error),
     }
 }
 
 #[test]
 fn a_source_is_read_whole_or_not_at_all(rt: HostRuntime) -> Result<(), Fail> {
-    let alloc = rt.alloc();
-    let long = vec![in alloc; 7u8; 10_000]?;
-    assert!(rt; is_read(alloc, &long, u64::MAX, true)?);
-    assert!(rt; is_read(alloc, &long, 2, false)?);
-    Ok(())
+    holds(&rt, many_are_read(rt.alloc()))
 }
 
 // Whether a write takes so many bytes, or fails where none is told, and the sink then has got these.
@@ -56,17 +91,28 @@ fn writes(sink: &mut MemorySink, piece: &[u8], count: Option<usize>, got: &[u8])
     !piece.is_empty() && sink.write(piece).ok() == count && sink.got() == got
 }
 
+fn takes_five(sink: &mut MemorySink) -> Result<bool, AllocError> {
+    every(&[
+        Ok(writes(sink, b"abc", Some(3), b"abc")),
+        Ok(writes(sink, b"def", None, b"abc")),
+        Ok(writes(sink, b"def", Some(2), b"abcde")),
+        Ok(writes(sink, b"f", None, b"abcde")),
+    ])
+}
+
+// Whether a sink whose second write fails takes five bytes.
+fn five_are_taken(alloc: Global) -> Result<bool, AllocError> {
+    match sink_of(alloc, 5, 1) {
+        Ok(mut sink) => takes_five(&mut sink),
+        Err(error) => Err(error),
+    }
+}
+
 #[test]
 fn a_sink_in_memory_fails_where_it_is_told_to_and_without_room(
     rt: HostRuntime,
 ) -> Result<(), Fail> {
-    let alloc = rt.alloc();
-    let mut sink = MemorySink::new(alloc, 5, vec![in alloc; 1]?)?;
-    assert!(rt; writes(&mut sink, b"abc", Some(3), b"abc"));
-    assert!(rt; writes(&mut sink, b"def", None, b"abc"));
-    assert!(rt; writes(&mut sink, b"def", Some(2), b"abcde"));
-    assert!(rt; writes(&mut sink, b"f", None, b"abcde"));
-    Ok(())
+    holds(&rt, five_are_taken(rt.alloc()))
 }
 
 // Whether a text is written whole, as told, and the sink then has got these bytes.
@@ -74,12 +120,23 @@ fn writes_all(sink: &mut MemorySink, text: &[u8], whole: bool, got: &[u8]) -> bo
     write_all(sink, text).is_ok() == whole && sink.got() == got
 }
 
+fn cuts_short(sink: &mut MemorySink) -> Result<bool, AllocError> {
+    every(&[
+        Ok(writes_all(sink, b"hello", true, b"hello")),
+        Ok(writes_all(sink, b" world", false, b"hello wo")),
+    ])
+}
+
+// Whether eight bytes of a text are taken.
+fn eight_are_taken(alloc: Global) -> Result<bool, AllocError> {
+    match MemorySink::new(alloc, 8, Vec::new(alloc)) {
+        Ok(mut sink) => cuts_short(&mut sink),
+        Err(error) => Err(error),
+    }
+}
+
 #[test]
 fn a_text_is_written_whole_or_cut_short(rt: HostRuntime) -> Result<(), Fail> {
-    let alloc = rt.alloc();
-    let mut sink = MemorySink::new(alloc, 8, Vec::new(alloc))?;
-    assert!(rt; writes_all(&mut sink, b"hello", true, b"hello"));
-    assert!(rt; writes_all(&mut sink, b" world", false, b"hello wo"));
-    assert!(rt; write_all(&mut Streams::new(&rt), b"").is_ok());
-    Ok(())
+    let writes_nothing = write_all(&mut Streams::new(&rt), b"").is_ok();
+    hold(&rt, &[eight_are_taken(rt.alloc()), Ok(writes_nothing)])
 }

@@ -1,4 +1,5 @@
 //! The words of the command line, and peers in words.
+use crate::shown::{hold, not};
 use report::peer_text;
 use script::is_replay;
 use service_core::{Octets, Peer};
@@ -16,22 +17,32 @@ fn said(alloc: Global, words: &[&str]) -> Result<Vec<Octets>, AllocError> {
 
 // Whether these words are the form.
 fn are_replay(alloc: Global, words: &[&str]) -> Result<bool, AllocError> {
-    Ok(is_replay(&said(alloc, words)?))
+    match said(alloc, words) {
+        Ok(words) => Ok(is_replay(&words)),
+        Err(error) => Err(error),
+    }
 }
 
 #[test]
 fn only_the_one_word_replay_is_replay(rt: HostRuntime) -> Result<(), Fail> {
     let alloc = rt.alloc();
-    assert!(rt; !are_replay(alloc, &[])?);
-    assert!(rt; are_replay(alloc, &["replay"])?);
-    assert!(rt; !are_replay(alloc, &["replay", ""])?);
-    assert!(rt; !are_replay(alloc, &[""])?);
-    Ok(())
+    hold(
+        &rt,
+        &[
+            not(are_replay(alloc, &[])),
+            are_replay(alloc, &["replay"]),
+            not(are_replay(alloc, &["replay", ""])),
+            not(are_replay(alloc, &[""])),
+        ],
+    )
 }
 
 // Whether a peer in words is this text.
 fn is_told(alloc: Global, peer: Peer, text: &[u8]) -> Result<bool, AllocError> {
-    Ok(peer_text(alloc, peer)?.as_bytes() == text)
+    match peer_text(alloc, peer) {
+        Ok(told) => Ok(told.as_bytes() == text),
+        Err(error) => Err(error),
+    }
 }
 
 #[test]
@@ -45,9 +56,13 @@ fn a_peer_is_told_in_words(rt: HostRuntime) -> Result<(), Fail> {
         host: 0x2001_0db8_0000_0000_0000_0000_00af_fffe,
         port: 80,
     };
-    assert!(rt; is_told(alloc, v4, b"10.0.0.255:5000")?);
-    assert!(rt; is_told(alloc, v6, b"[2001:0db8:0000:0000:0000:0000:00af:fffe]:80")?);
-    assert!(rt; is_told(alloc, Peer::Local, b"local")?);
-    assert!(rt; is_told(alloc, Peer::Unknown, b"unknown")?);
-    Ok(())
+    hold(
+        &rt,
+        &[
+            is_told(alloc, v4, b"10.0.0.255:5000"),
+            is_told(alloc, v6, b"[2001:0db8:0000:0000:0000:0000:00af:fffe]:80"),
+            is_told(alloc, Peer::Local, b"local"),
+            is_told(alloc, Peer::Unknown, b"unknown"),
+        ],
+    )
 }
