@@ -1,6 +1,8 @@
 """What the scripts of this folder share: how long a program takes, beside what it prints."""
 
 import os
+import re
+import shutil
 import subprocess
 import sys
 
@@ -29,3 +31,15 @@ def difference(more, less):
     if more <= less:
         sys.exit("the work took no time that can be told from the start of the program")
     return more - less
+
+
+def instructions(command):
+    """The instructions of a run, as valgrind counts them, or None where there is no valgrind. Each byte that `rep stosb` clears counts as one."""
+    if not shutil.which("valgrind"):
+        return None
+    words = ["valgrind", "--tool=callgrind", "--callgrind-out-file=/dev/null", *map(str, command)]
+    ran = subprocess.run(words, stdin=subprocess.DEVNULL, stdout=subprocess.DEVNULL, stderr=subprocess.PIPE)
+    found = re.search(rb"Collected : (\d+)", ran.stderr)
+    if ran.returncode != 0 or not found:
+        sys.exit(f"{words} ended with status {ran.returncode} and said {ran.stderr[-300:]!r}")
+    return int(found[1])

@@ -36,8 +36,9 @@ fn response(alloc: Global) -> Result<Response, AllocError>
       body = codes "Hello world!";
     }) }
 {
-    let mut response = Response::text(alloc, 200, "Hello world!")?;
-    let value = FieldValue::of_field_bytes(alloc, b"text/plain")?;
+    let mut response = Response::new(alloc, 200);
+    response.set_static_body(b"Hello world!");
+    let value = FieldValue::from_static(alloc, b"text/plain");
     response.headers_mut().append(CONTENT_TYPE, value)?;
     Ok(response)
 }

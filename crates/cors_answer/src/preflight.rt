@@ -14,9 +14,13 @@ use cors_sets::number_value;
 use http_header::{
     ACCESS_CONTROL_ALLOW_CREDENTIALS, ACCESS_CONTROL_ALLOW_HEADERS, ACCESS_CONTROL_ALLOW_METHODS,
     ACCESS_CONTROL_ALLOW_ORIGIN, ACCESS_CONTROL_MAX_AGE, ACCESS_CONTROL_REQUEST_HEADERS,
+    ORIGIN,
 };
 use http1_plain::{ErrorResponse, FieldValue, HeaderList, RequestHead, Response};
 use std::alloc::{AllocError, Global};
+
+// How many fields an answer to a preflight has at most.
+const MOST_FIELDS: usize = 6;
 
 // Origin, method and headers of a preflight, in this order.
 fn check_preflight<G: OriginRule>(policy: &Policy<G>, head: &RequestHead) -> Result<(), CorsError>
@@ -47,7 +51,7 @@ fn allowed_value<G>(
     }
     match asked {
         None => Ok(None),
-        Some(asked) => Ok(Some(asked.copy()?)),
+        Some(asked) => Ok(Some(asked.detached()?)),
     }
 }
 
@@ -70,7 +74,7 @@ fn push_origin<G: OriginRule>(
 ) -> Result<(), AllocError>
     ensures { OnOk result (headers.new ≡ headers.old ++ field (codes "access-control-allow-origin") (granted_value policy.now (view head.now))) }
 {
-    let origin = policy.grant_value(alloc, head)?;
+    let origin = policy.grant_value(alloc, head, head.headers.get(&ORIGIN))?;
     push_field(headers, ACCESS_CONTROL_ALLOW_ORIGIN, origin)
 }
 
@@ -139,7 +143,7 @@ fn passed_preflight<G: OriginRule>(
 ) -> Result<Response, AllocError>
     ensures { IfOk result (λ r. r ≡ record { status = 200; headers = vary policy.now (preflight_headers policy.now (view head.now)); body = [] }) }
 {
-    let mut headers = HeaderList::new(alloc);
+    let mut headers = HeaderList::with_capacity(alloc, MOST_FIELDS)?;
     push_headers(policy, alloc, head, &mut headers)?;
     vary_where(policy, &mut headers)?;
     let mut response = Response::new(alloc, 200);

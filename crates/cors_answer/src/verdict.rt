@@ -1,7 +1,8 @@
 //! What becomes of a request.
-ghost use Rattle.std.specs.Prelude.{◌≡◌, [], IfOk};
+ghost use Rattle.std.specs.Prelude.{◌≡◌, [], IfOk, option_copied};
 ghost use Rattle.http1_plain.specs.Views.{view};
 ghost use Rattle.cors_rules.specs.Answers.{verdict, by_grant, judged, refused};
+ghost use Rattle.cors_rules.specs.Origins.{origin_of};
 ghost use Rattle.cors_rules.specs.Fields.{vary};
 ghost use Rattle.cors_answer.specs.Verdicts.{verdict_of};
 
@@ -23,11 +24,16 @@ pub enum Verdict {
 }
 
 // Whether the origin is granted; a request with no `Origin` asks for no grant.
-fn judge<G: OriginRule>(policy: &Policy<G>, head: &RequestHead) -> Result<bool, CorsError>
+fn judge<G: OriginRule>(
+    policy: &Policy<G>,
+    head: &RequestHead,
+    origin: Option<&FieldValue>,
+) -> Result<bool, CorsError>
+    requires { option_copied origin ≡ origin_of (view head.now) }
     ensures { result ≡ judged G.allowed policy.now (view head.now) }
 {
-    match head.headers.get(&ORIGIN) {
-        Some(_) => policy.validate_origin(head),
+    match origin {
+        Some(_) => policy.validate_origin_value(head, origin),
         None => Ok(false),
     }
 }
@@ -53,9 +59,10 @@ fn by_grant<G: OriginRule>(
     ensures { IfOk result (λ v. verdict_of v
         ≡ by_grant policy.now (view head.now) (judged G.allowed policy.now (view head.now))) }
 {
-    match judge(policy, head) {
+    let origin = head.headers.get(&ORIGIN);
+    match judge(policy, head, origin) {
         Err(error) => Ok(Verdict::Answered(blocked(policy, alloc, error)?)),
-        Ok(true) => Ok(Verdict::HandedOn(policy.grant_value(alloc, head)?)),
+        Ok(true) => Ok(Verdict::HandedOn(policy.grant_value(alloc, head, origin)?)),
         Ok(false) => Ok(Verdict::HandedOn(None)),
     }
 }

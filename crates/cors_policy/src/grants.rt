@@ -4,7 +4,7 @@ ghost use Rattle.http1_plain.specs.Views.{view};
 ghost use Rattle.cors_rules.specs.Allowed.{is_all, finite_part};
 ghost use Rattle.cors_rules.specs.Sets.{holds};
 ghost use Rattle.std.specs.List.{list_any};
-ghost use Rattle.cors_rules.specs.Origins.{grants, validate_origin, granted_value};
+ghost use Rattle.cors_rules.specs.Origins.{grants, validate_origin, granted_value, origin_of};
 
 use crate::policy::Policy;
 use crate::rule::OriginRule;
@@ -39,15 +39,20 @@ impl<G: OriginRule> Policy<G> {
         self.has_origin(origin) || self.rule_allows(head, origin.as_bytes())
     }
 
-    /// Whether the origin is granted, or why the request is refused.
+    /// Whether the origin is granted, or why the request is refused, where the caller has looked up the request's `Origin`.
     #[tactic(auto, unfolding(cors_rules::specs::Origins::validate_origin))]
-    pub fn validate_origin(&self, head: &RequestHead) -> Result<bool, CorsError>
+    pub fn validate_origin_value(
+        &self,
+        head: &RequestHead,
+        origin: Option<&FieldValue>,
+    ) -> Result<bool, CorsError>
+        requires { option_copied origin ≡ origin_of (view head.now) }
         ensures { result ≡ validate_origin G.allowed self.now (view head.now) }
     {
         if self.origins.is_all() && self.rules.is_empty() {
             return Ok(true);
         }
-        match head.headers.get(&ORIGIN) {
+        match origin {
             None => Err(CorsError::MissingOrigin),
             Some(origin) => {
                 if self.grants(head, origin) {
@@ -59,6 +64,13 @@ impl<G: OriginRule> Policy<G> {
                 }
             }
         }
+    }
+
+    /// Whether the origin is granted, or why the request is refused.
+    pub fn validate_origin(&self, head: &RequestHead) -> Result<bool, CorsError>
+        ensures { result ≡ validate_origin G.allowed self.now (view head.now) }
+    {
+        self.validate_origin_value(head, head.headers.get(&ORIGIN))
     }
 
     // Whether a grant is written as `*`.
@@ -81,19 +93,21 @@ impl<G: OriginRule> Policy<G> {
         }
     }
 
-    /// The value that a grant writes, for an answer.
+    /// The value that a grant writes, for an answer to a request with this head and this `Origin`. It keeps no part of the head.
     pub fn grant_value(
         &self,
         alloc: Global,
-        head: &RequestHead,
+        _head: &RequestHead,
+        origin: Option<&FieldValue>,
     ) -> Result<Option<FieldValue>, AllocError>
-        ensures { IfOk result (λ value. value ≡ granted_value self.now (view head.now)) }
+        requires { option_copied origin ≡ origin_of (view _head.now) }
+        ensures { IfOk result (λ value. value ≡ granted_value self.now (view _head.now)) }
     {
         if self.writes_wildcard() {
             return Ok(Some(literal(alloc, "*")?));
         }
-        match head.headers.get(&ORIGIN) {
-            Some(origin) => Ok(Some(origin.copy()?)),
+        match origin {
+            Some(origin) => Ok(Some(origin.detached()?)),
             None => Ok(None),
         }
     }

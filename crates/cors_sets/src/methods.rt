@@ -11,7 +11,7 @@ use std::alloc::{AllocError, Global};
 
 // The set of the texts.
 #[tactic(auto, using(std::proofs::lemmas::List::Sums::fold_more))]
-fn set_of(alloc: Global, texts: &[&str]) -> Result<TextSet, AllocError>
+fn set_of(alloc: Global, texts: &[&'static str]) -> Result<TextSet, AllocError>
     requires { list_all (λ text. list_all is_field_byte text.now) texts.now ≡ true }
     ensures { IfOk result (λ set. set ≡ fold (λ set text. with set text.now) [] texts.now) }
 {

@@ -34,6 +34,9 @@ impl Model for SortedTexts {
     ghost invariant = { λ t. IsStrictlySortedBy (slice_cmp nat_cmp) t.row.items };
 }
 
+// Up to so many texts are compared one by one.
+const FEW_TEXTS: usize = 8;
+
 // How the text stands to the name in lower case, by their bytes.
 pub(crate) fn cmp_lowered(text: &[u8], name: &[u8]) -> Ordering
     ensures { result ≡ slice_cmp nat_cmp text.now (lowercase name.now) }
@@ -62,8 +65,18 @@ impl SortedTexts {
         Ok(SortedTexts { row })
     }
 
-    /// Whether the text is a member, by a search.
+    /// Whether the text is a member, by a search where the row is long. Among few texts most differ in their lengths.
     pub fn contains(&self, text: &[u8]) -> bool
+        ensures { result ≡ holds self.now text.now }
+    {
+        if self.row.len() <= FEW_TEXTS {
+            self.row.iter().any(|member| text == member.as_bytes())
+        } else {
+            self.search(text)
+        }
+    }
+
+    fn search(&self, text: &[u8]) -> bool
         ensures { result ≡ holds self.now text.now }
     {
         self.row

@@ -132,11 +132,7 @@ impl TextSet {
         ensures { IfOk result (λ text. text ≡ joined self.now) }
     {
         match &self.text {
-            Some(joined) => {
-                let mut text = FieldValue::empty(alloc);
-                text.push_value(joined)?;
-                Ok(text)
-            }
+            Some(joined) => joined.copy(),
             None => self.join(alloc),
         }
     }
@@ -179,7 +175,7 @@ impl TextSet {
     pub fn copy_joined(&self) -> Result<TextSet, AllocError>
         ensures { IfOk result (λ copy. copy ≡ self.now) }
     {
-        let text = self.joined(self.alloc)?;
+        let text = self.joined(self.alloc)?.into_shared()?;
         Ok(TextSet {
             alloc: self.alloc,
             texts: self.texts.clone()?,

@@ -6,16 +6,17 @@ ghost use Rattle.http1_plain.specs.Fields.{is_field_byte};
 
 use http_header::HeaderName;
 use http1_plain::FieldValue;
+use itoa::Buffer;
 use service_core::Octets;
 use std::alloc::{AllocError, Global};
 
 /// The text of a literal.
 #[tactic(auto, using(crate::proofs::ValueSteps::values_of))]
-pub fn literal(alloc: Global, text: &str) -> Result<FieldValue, AllocError>
+pub fn literal(alloc: Global, text: &'static str) -> Result<FieldValue, AllocError>
     requires { list_all is_field_byte text.now ≡ true }
     ensures { IfOk result (λ value. value ≡ text.now) }
 {
-    FieldValue::of_field_bytes(alloc, text.as_bytes())
+    Ok(FieldValue::from_static(alloc, text.as_bytes()))
 }
 
 /// Appends the text of a literal.
@@ -32,8 +33,8 @@ pub fn push_literal(value: &mut FieldValue, text: &str) -> Result<(), AllocError
 pub fn number_value(alloc: Global, number: u64) -> Result<FieldValue, AllocError>
     ensures { IfOk result (λ value. value ≡ decimal number) }
 {
-    let digits = format!(in alloc; "{number}")?;
-    FieldValue::of_field_bytes(alloc, digits.as_bytes())
+    let mut buffer = Buffer::new();
+    FieldValue::of_field_bytes(alloc, buffer.format(number).as_bytes())
 }
 
 /// A method's bytes.

@@ -6,3 +6,5 @@ pub mod Singles
 pub mod Faults
 pub mod ResponseLends
 pub mod NamesLeft
+pub mod Kept
+pub mod Texts

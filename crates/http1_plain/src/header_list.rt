@@ -27,7 +27,8 @@ impl Model for HeaderList {
 fn place_of(entries: &[(HeaderName, FieldValue)], name: &HeaderName) -> Option<usize>
     ensures { result ≡ position (is_named name.now) entries.now }
 {
-    entries.iter().position(|entry| entry.0 == *name)
+    let name = name.as_bytes();
+    entries.iter().position(|entry| entry.0.as_bytes() == name)
 }
 
 // The headers of other names go to the front in order. The answer is how many those are.
@@ -64,6 +65,15 @@ impl HeaderList {
         HeaderList {
             entries: Vec::new(alloc),
         }
+    }
+
+    /// No headers, with the memory for so many.
+    pub fn with_capacity(alloc: Global, capacity: usize) -> Result<HeaderList, AllocError>
+        ensures { IfOk result (λ list. list ≡ []) }
+    {
+        Ok(HeaderList {
+            entries: Vec::with_capacity(alloc, capacity)?,
+        })
     }
 
     /// How many headers there are.

@@ -1,12 +1,12 @@
 //! The next request head of a connection.
-ghost use Rattle.std.specs.Prelude.{◌≡◌, ◌≤◌, ℕ, List, None, length, drop, IfOk};
-ghost use Rattle.http1_grammar.specs.Lines.{empty_line};
+ghost use Rattle.std.specs.Prelude.{◌≡◌, ◌≤◌, ℕ, List, None, length, drop, count_by, IfOk};
+ghost use Rattle.http1_grammar.specs.Lines.{empty_line, is_line_feed};
 ghost use Rattle.http1_grammar.specs.Next.{judge, next};
 ghost use Rattle.http1_plain.specs.Steps.{step_of, IsWithin};
 
 use crate::framing::{Framing, framing_of};
 use crate::head::read_head;
-use crate::scan::{count_lines, empty_lines, head_len};
+use crate::scan::{empty_lines, head_size};
 use crate::{Limits, RequestHead};
 use std::alloc::{AllocError, Global};
 
@@ -23,18 +23,25 @@ pub enum NextHead {
 
 const MOST_LINES: usize = 98;
 
-// The step of a head's text, which ends after so many bytes.
-fn judge(alloc: Global, limits: Limits, text: &[u8], used: usize) -> Result<NextHead, AllocError>
+// The step of a head's text of so many lines, which ends after so many bytes.
+fn judge(
+    alloc: Global,
+    limits: Limits,
+    text: &[u8],
+    lines: usize,
+    used: usize,
+) -> Result<NextHead, AllocError>
+    requires lines { lines ≡ count_by is_line_feed text.now }
     requires size { length text.now ≤ 65535 }
     requires begins { empty_line text.now ≡ None }
     ensures step { (bytes : List ℕ) → IfOk result (λ found. step_of bytes found
         ≡ judge limits text.now (drop used bytes)) }
     ensures within { IfOk result (IsWithin used) }
 {
-    if count_lines(text) > MOST_LINES {
+    if lines > MOST_LINES {
         return Ok(NextHead::Refused(431));
     }
-    let Some(head) = read_head(alloc, text)? else {
+    let Some(head) = read_head(alloc, text, lines)? else {
         return Ok(NextHead::Refused(400));
     };
     match framing_of(&head, limits.body()) {
@@ -55,8 +62,14 @@ pub fn next_head(alloc: Global, limits: Limits, bytes: &[u8]) -> Result<NextHead
         return Ok(NextHead::Nothing);
     }
     let most = limits.head();
-    match head_len(&rest[..most.min(rest.len())]) {
-        Some(len) => judge(alloc, limits, &rest[..len], skipped + len),
+    match head_size(&rest[..most.min(rest.len())]) {
+        Some(size) => judge(
+            alloc,
+            limits,
+            &rest[..size.len],
+            size.lines,
+            skipped + size.len,
+        ),
         None => {
             if rest.len() >= most {
                 Ok(NextHead::Refused(431))

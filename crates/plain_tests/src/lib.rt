@@ -16,6 +16,8 @@ mod response_tests;
 #[cfg(test)]
 mod rule_tests;
 #[cfg(test)]
+mod sharing_tests;
+#[cfg(test)]
 mod shown;
 #[cfg(test)]
 mod value_tests;

@@ -201,6 +201,20 @@ fn are_cut_by_lines(alloc: Global) -> Result<bool, AllocError> {
     ])
 }
 
+// Whether heads of 24 header lines and of 25 are cut, for which there is room for few and for many.
+fn are_cut_by_room(alloc: Global) -> Result<bool, AllocError> {
+    let line = "GET / HTTP/1.1\r\n";
+    every(&[
+        are_cut(alloc, wide(), (line, "a:\r\n", 24, "\r\n"), 1114),
+        are_cut(alloc, wide(), (line, "a:\r\n", 25, "\r\n"), 1118),
+    ])
+}
+
+#[test]
+fn heads_of_few_headers_and_of_many(rt: HostRuntime) -> Result<(), Fail> {
+    holds(&rt, are_cut_by_room(rt.alloc()))
+}
+
 #[test]
 fn heads_at_the_limit(rt: HostRuntime) -> Result<(), Fail> {
     let alloc = rt.alloc();

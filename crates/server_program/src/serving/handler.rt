@@ -14,8 +14,9 @@ use std::alloc::{AllocError, Global};
 fn hello_response(alloc: Global) -> Result<Response, AllocError>
     ensures { IfOk result (λ response. response ≡ hello_response) }
 {
-    let mut response = Response::text(alloc, 200, "Hello world!")?;
-    let value = FieldValue::of_field_bytes(alloc, b"text/plain")?;
+    let mut response = Response::new(alloc, 200);
+    response.set_static_body(b"Hello world!");
+    let value = FieldValue::from_static(alloc, b"text/plain");
     response.headers_mut().append(CONTENT_TYPE, value)?;
     Ok(response)
 }

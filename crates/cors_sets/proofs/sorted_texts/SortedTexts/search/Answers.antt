@@ -3,7 +3,7 @@ use Rattle.std.specs.Cmp.Lexicographic.{slice_cmp}
 use Rattle.std.specs.Ordering.{nat_cmp}
 use Rattle.std.proofs.lemmas.Fn.{always_returns_same}
 use Rattle.cors_sets.proofs.SetSteps.{found_in_row}
-use Rattle.cors_sets.proofs.sorted_texts.SortedTexts.contains.Goals as goal
+use Rattle.cors_sets.proofs.sorted_texts.SortedTexts.search.Goals as goal
 
 -- the closure compares a member with the text, and the slice is the row
 pub returns : goal.returns
