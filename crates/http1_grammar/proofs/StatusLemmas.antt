@@ -10,7 +10,7 @@ use Rattle.http1_grammar.specs.Framing as framing
 use Rattle.http1_grammar.specs.Next as step
 use Rattle.http1_grammar.specs.Next.{Next, by_framing, by_grammar, by_len, judge, next_head, next}
 use Rattle.http1_grammar.specs.Body.{Body, unfinished, malformed, whole, Piece, undecided, refused, chunk, last, sized_chunk, chunk_by, by_line, piece, trailer_by, trailer, after_piece, chunks_within, chunks, body_by, chunk_size}
-use Rattle.http1_grammar.specs.Reading.{IsRefusal, StageRefuses, Reading, decision, Stage, at_head, in_body, is_refused, Decision, needs_more, refuses, a_head, a_body, of_next, of_body, decision_at}
+use Rattle.http1_grammar.specs.Reading.{IsRefusal, StageRefuses, Reading, decision, Stage, at_head, in_length, in_chunks, is_refused, Decision, needs_more, refuses, a_head, a_body, of_next, of_body, decision_at}
 use Rattle.http1_grammar.proofs.BodyLemmas.{trailer_len}
 
 abbrev pub NextRefuses : Next → Type 0
@@ -142,7 +142,8 @@ of_body_refuses (whole data' rest) h = tt
 
 pub decision_refuses : (limits : Limits) (stage : Stage) (bytes : List ℕ) → StageRefuses stage → DecisionRefuses (decision_at limits stage bytes)
 decision_refuses limits at_head bytes h = of_next_refuses (next limits bytes) (next_refuses limits bytes)
-decision_refuses limits (in_body f) bytes h = of_body_refuses (body_by limits bytes f) (framed_refuses limits bytes f)
+decision_refuses limits (in_length size) bytes h = of_body_refuses (body_by limits bytes (framing.sized size)) (framed_refuses limits bytes (framing.sized size))
+decision_refuses limits (in_chunks data') bytes h = of_body_refuses (chunks limits data' bytes) (chunks_refuse (suc (length bytes)) limits data' bytes)
 decision_refuses limits (is_refused status) bytes h = h
 
 -- the status that refuses a head
@@ -150,8 +151,8 @@ pub refused_head : (limits : Limits) (bytes : List ℕ) (status : ℕ) → step.
 refused_head limits bytes status h = subst NextRefuses (sym h) (head_refuses limits bytes)
 
 -- the status that refuses a body in chunks
-pub refused_chunks : (limits : Limits) (bytes : List ℕ) (status : ℕ) → chunks limits [] bytes ≡ malformed status → IsRefusal status
-refused_chunks limits bytes status h = subst BodyRefuses h (chunks_refuse (suc (length bytes)) limits [] bytes)
+pub refused_chunks : (limits : Limits) (before bytes : List ℕ) (status : ℕ) → chunks limits before bytes ≡ malformed status → IsRefusal status
+refused_chunks limits before bytes status h = subst BodyRefuses h (chunks_refuse (suc (length bytes)) limits before bytes)
 
 pub reading_refuses : (reading : Reading) (status : ℕ) → StageRefuses reading.stage → decision reading ≡ refuses status → IsRefusal status
 reading_refuses reading status h e = subst DecisionRefuses e (decision_refuses reading.limits reading.stage reading.unread h)
