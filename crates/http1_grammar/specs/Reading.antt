@@ -132,6 +132,13 @@ StageRefuses (in_length size) = ⊤
 StageRefuses (in_chunks data') = ⊤
 StageRefuses (is_refused status) = IsRefusal status
 
+-- the body of a head comes next
+abbrev pub IsAtBody : Stage → Type 0
+IsAtBody at_head = ⊥
+IsAtBody (in_length size) = ⊤
+IsAtBody (in_chunks data') = ⊤
+IsAtBody (is_refused status) = ⊥
+
 -- a length, or the data so far, is within the limit of bodies
 abbrev pub StageFits : Limits → Stage → Type 0
 StageFits limits at_head = ⊤
