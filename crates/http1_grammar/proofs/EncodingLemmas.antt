@@ -1,6 +1,6 @@
 -- What an encoder of chunks writes is read as its data.
-use Rattle.std.proofs.Common.{◌≡◌, ◌≤◌, ◌<◌, ◌+◌, ◌-◌, ◌^◌, ℕ, zero, suc, true, false, cond, List, [], ◌∷◌, ◌++◌, length, take, drop, map, arith, sym, ap, ◌∙◌, refl, nat_lt, Option, Some, None, append_assoc, append-nil, length-append}
-use Rattle.std.specs.Prelude.{◌==◌, ◌&&◌, nat_le, bytes_eq, codes, flat_map}
+use Rattle.std.proofs.Common.{◌≡◌, ◌≤◌, ◌<◌, ◌+◌, ◌-◌, ◌^◌, ℕ, zero, suc, true, cond, List, [], ◌∷◌, ◌++◌, length, take, drop, map, arith, sym, ap, ◌∙◌, refl, Some, None, append_assoc, append-nil, length-append}
+use Rattle.std.specs.Prelude.{codes, flat_map}
 use Rattle.std.specs.Char.{digit_value, digit_char, is_ascii_hexdigit}
 use Rattle.std.specs.List.{list_all, prefix_len, concat, AllByRecursion}
 use Rattle.std.specs.Int.Digits.{digits_of, AllBelowBase, number_from_digits}
@@ -15,7 +15,7 @@ use Rattle.http1_grammar.specs.Limits.{Limits}
 use Rattle.http1_grammar.specs.Lines.{line_text, line_end, cut_at, empty_line, head_len, or_else}
 use Rattle.http1_grammar.specs.Head.{Head}
 use Rattle.http1_grammar.specs.Framing.{chunked, framing}
-use Rattle.http1_grammar.specs.Body.{whole, is_crlf, size_by, size_of, chunk_size, Piece, chunk, last, sized_chunk, chunk_by, by_line, piece, trailer_by, trailer, after_piece, chunks, body_by, body}
+use Rattle.http1_grammar.specs.Body.{whole, is_crlf, size_by, size_of, chunk_size, chunk, last, sized_chunk, chunk_by, by_line, piece, trailer_by, trailer, after_piece, chunks, body_by, body}
 use Rattle.http1_grammar.specs.Encoding.{hexadecimal, encoded_chunk, encoded, IsCarried}
 use Rattle.http1_grammar.proofs.LineLemmas.{is_not, has_no, line_text_of, line_end_of, cut_at_finds}
 use Rattle.http1_grammar.proofs.StepLemmas.{take_past}

@@ -10,7 +10,7 @@ use Rattle.http1_grammar.specs.RequestText.{request_head}
 use Rattle.http1_grammar.specs.Framing.{Framing, empty, sized, chunked, faulty, framing}
 use Rattle.http1_grammar.specs.Next.{Next, nothing, refuse, found, by_framing, by_grammar, by_len, judge, next_head, next}
 use Rattle.http1_grammar.specs.Body.{Body, unfinished, malformed, whole, chunks, body_by}
-use Rattle.http1_grammar.specs.Reading.{Stage, at_head, in_length, in_chunks, is_refused, body_stage, Reading, Decision, needs_more, refuses, a_head, a_body, of_next, of_body, decision_at, decision, settled, kept, waiting, behind, StageFits, data_of, held}
+use Rattle.http1_grammar.specs.Reading.{Stage, at_head, in_length, in_chunks, is_refused, body_stage, Reading, Decision, needs_more, refuses, a_head, a_body, of_next, of_body, decision_at, decision, kept, waiting, behind, StageFits, data_of, held}
 use Rattle.http1_grammar.proofs.SettledLemmas.{whole_open, settled_left, settled_fits}
 
 -- ---- a head that isn't whole

@@ -1,5 +1,5 @@
 -- What a reader's decision says of the bytes that follow.
-use Rattle.std.proofs.Common.{◌≡◌, ◌<◌, ℕ, List, [], ◌++◌, length, take, drop, arith, sym, ap, ◌∙◌, refl}
+use Rattle.std.proofs.Common.{◌≡◌, ◌<◌, ℕ, List, ◌++◌, length, arith, sym, ap, ◌∙◌, refl}
 use Rattle.std.proofs.lemmas.Bool.{le-ltb}
 use Rattle.http1_grammar.specs.Limits.{Limits}
 use Rattle.http1_grammar.specs.Lines.{skip_empty_lines}
@@ -8,7 +8,7 @@ use Rattle.http1_grammar.specs.Framing.{Framing, empty, sized, chunked, faulty, 
 use Rattle.http1_grammar.specs.Next as step
 use Rattle.http1_grammar.specs.Next.{Next, extended, next_head, next}
 use Rattle.http1_grammar.specs.Body.{Body, unfinished, malformed, whole, extended_body, chunks, body_by, body}
-use Rattle.http1_grammar.specs.Reading.{Stage, at_head, in_length, in_chunks, is_refused, body_stage, Reading, Decision, needs_more, refuses, a_head, a_body, of_next, of_body, decision_at, decision, kept, waiting, behind, fed, extended_decision}
+use Rattle.http1_grammar.specs.Reading.{Stage, at_head, in_length, in_chunks, is_refused, body_stage, Reading, needs_more, of_next, of_body, decision_at, decision, kept, waiting, behind, fed, extended_decision}
 use Rattle.http1_grammar.proofs.StepLemmas.{next_append, skip_append}
 use Rattle.http1_grammar.proofs.BodyLemmas.{chunks_append, framed_append}
 use Rattle.http1_grammar.proofs.SettledLemmas.{settled_stays}

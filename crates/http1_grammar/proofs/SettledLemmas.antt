@@ -4,7 +4,7 @@ use Rattle.std.specs.Prelude.{◌==◌, ◌⊎◌, nat_le, bytes_eq}
 use Rattle.std.proofs.lemmas.Bool.{leb-false, le-leb, ltb-true, ltb-false, cases_lt}
 use Rattle.http1_grammar.specs.Limits.{Limits}
 use Rattle.http1_grammar.specs.Lines.{cut_at}
-use Rattle.http1_grammar.specs.Body.{Body, unfinished, malformed, whole, Piece, undecided, refused, chunk, last, extended_piece, sized_chunk, chunk_by, by_line, piece, trailer_by, trailer, after_piece, chunks, chunk_size}
+use Rattle.http1_grammar.specs.Body.{unfinished, malformed, whole, Piece, undecided, refused, chunk, last, extended_piece, sized_chunk, chunk_by, by_line, piece, trailer_by, trailer, after_piece, chunks, chunk_size}
 use Rattle.http1_grammar.specs.Reading.{settle, settled_within, settled}
 use Rattle.http1_grammar.proofs.LineLemmas.{cut_at_gives}
 use Rattle.http1_grammar.proofs.AnswerLemmas.{piece_keeps, PieceKeeps, chunks_step}

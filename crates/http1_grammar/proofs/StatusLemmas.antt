@@ -1,6 +1,6 @@
 -- Which statuses refuse a request.
-use Rattle.std.proofs.Common.{◌≡◌, ◌+◌, ◌-◌, ℕ, zero, suc, Bool, true, false, cond, List, [], ◌∷◌, ◌++◌, length, take, drop, sym, subst, refl, nat_lt, Option, Some, None, inl, inr}
-use Rattle.std.specs.Prelude.{◌==◌, ◌⊎◌, nat_le, bytes_eq, count_by}
+use Rattle.std.proofs.Common.{◌≡◌, ◌+◌, ◌-◌, ℕ, zero, suc, true, false, cond, List, [], ◌∷◌, ◌++◌, length, take, drop, sym, subst, refl, nat_lt, Option, Some, None, inl, inr}
+use Rattle.std.specs.Prelude.{◌==◌, nat_le, bytes_eq, count_by}
 use Rattle.httparse.specs.Grammar.{RequestHead}
 use Rattle.http1_grammar.specs.Limits.{Limits}
 use Rattle.http1_grammar.specs.Lines.{is_line_feed, skip_empty_lines, head_len, cut_at}
