@@ -9,22 +9,15 @@ use Rattle.http1_grammar.specs.Limits.{Limits}
 use Rattle.http1_grammar.specs.Lines.{empty_line, head_len, or_else, cut_at}
 use Rattle.http1_grammar.specs.Head.{Head}
 use Rattle.http1_grammar.specs.Framing as framing
-use Rattle.http1_grammar.specs.Body.{unfinished, malformed, whole, extended_body, Piece, undecided, refused, chunk, last, sized_chunk, chunk_by, by_line, piece, trailer_by, trailer, after_piece, chunks, body_by, body, chunk_size}
+use Rattle.http1_grammar.specs.Body.{unfinished, malformed, whole, extended_body, Piece, undecided, refused, chunk, last, extended_piece, sized_chunk, chunk_by, by_line, piece, trailer_by, trailer, after_piece, chunks, body_by, body, chunk_size}
 use Rattle.http1_grammar.proofs.ScanLemmas.{head_len_within, empty_line_within}
 use Rattle.http1_grammar.proofs.StepLemmas.{empty_line_append, open_line, head_len_append, take_past}
 use Rattle.http1_grammar.proofs.AnswerLemmas.{piece_keeps, PieceKeeps, chunks_step}
 
--- the same piece where more bytes follow
-abbrev extended_piece : Piece → List ℕ → Piece
-extended_piece undecided more = undecided
-extended_piece (refused status) more = refused status
-extended_piece (chunk data' rest) more = chunk data' (rest ++ more)
-extended_piece (last rest) more = last (rest ++ more)
-
 -- ---- a chunk line
 
 -- the line that the first LF within so many bytes ends
-record LineStays (n : ℕ) (bytes more front : List ℕ) : Type 0 where
+pub record LineStays (n : ℕ) (bytes more front : List ℕ) : Type 0 where
   pub behind : List ℕ
   pub is : cut_at 10 (take n (bytes ++ more)) ≡ Some (front, behind)
   pub within : length front < length bytes
@@ -42,7 +35,7 @@ cut_later : (b : ℕ) (bytes : List ℕ) → (b == 10) ≡ false
 unfolding cut_at
 cut_later b bytes h = rw h refl
 
-line_append : (n : ℕ) (bytes more : List ℕ) (parts : List ℕ × List ℕ) → cut_at 10 (take n bytes) ≡ Some parts
+pub line_append : (n : ℕ) (bytes more : List ℕ) (parts : List ℕ × List ℕ) → cut_at 10 (take n bytes) ≡ Some parts
     → LineStays n bytes more parts.0
 line_append zero bytes more parts h = absurd (none-some parts (sym no_line ∙ h))
 line_append (suc n) [] more parts h = absurd (none-some parts (sym no_line ∙ h))
@@ -75,7 +68,7 @@ line_append (suc n) (b ∷ bytes) more parts h =
 
 -- ---- a chunk
 
-sized_append : (size : ℕ) (bytes more : List ℕ) → (sized_chunk size bytes ≡ undecided → ⊥)
+pub sized_append : (size : ℕ) (bytes more : List ℕ) → (sized_chunk size bytes ≡ undecided → ⊥)
     → sized_chunk size (bytes ++ more) ≡ extended_piece (sized_chunk size bytes) more
 sized_append size bytes more decided =
     elim (cases_lt (length bytes) (size + 2)) [
@@ -115,7 +108,7 @@ chunk_append room bytes more (Some size) decided =
     ] decided
 
 -- a decided piece stays, and the bytes behind it grow
-piece_append : (room : ℕ) (bytes more : List ℕ) → (piece room bytes ≡ undecided → ⊥)
+pub piece_append : (room : ℕ) (bytes more : List ℕ) → (piece room bytes ≡ undecided → ⊥)
     → piece room (bytes ++ more) ≡ extended_piece (piece room bytes) more
 unfolding piece
 piece_append room bytes more decided = by (cut_at 10 (take 256 bytes)) refl decided
@@ -142,10 +135,10 @@ piece_append room bytes more decided = by (cut_at 10 (take 256 bytes)) refl deci
 -- ---- the trailer part
 
 -- how many bytes the trailer part at the front has
-abbrev trailer_len : List ℕ → Option ℕ
+abbrev pub trailer_len : List ℕ → Option ℕ
 trailer_len bytes = or_else (empty_line bytes) (head_len bytes)
 
-trailer_len_append : (bytes more : List ℕ) (n : ℕ) → trailer_len bytes ≡ Some n
+pub trailer_len_append : (bytes more : List ℕ) (n : ℕ) → trailer_len bytes ≡ Some n
     → (trailer_len (bytes ++ more) ≡ Some n) × (n ≤ length bytes)
 trailer_len_append bytes more n h = by (empty_line bytes) refl h
   where
@@ -174,7 +167,7 @@ trailer_window limit bytes more n h =
           (ap trailer_len (take-append-le limit bytes more l) ∙ h, omega (arith, w.1, length-take limit bytes))
     ]
 
-trailer_append : (limits : Limits) (before bytes more : List ℕ) → (trailer limits before bytes ≡ unfinished → ⊥)
+pub trailer_append : (limits : Limits) (before bytes more : List ℕ) → (trailer limits before bytes ≡ unfinished → ⊥)
     → trailer limits before (bytes ++ more) ≡ extended_body (trailer limits before bytes) more
 unfolding trailer
 trailer_append limits before bytes more decided = by (trailer_len (take limits.head bytes)) refl decided
@@ -228,14 +221,14 @@ chunks_within_append (suc n) limits before bytes more l decided =
     (λ front rest k e. chunks_within_append n limits front rest more (omega arith) e) d
     ∙ ap (λ b. extended_body b more) (sym step)
 
-chunks_append : (limits : Limits) (before bytes more : List ℕ) → (chunks limits before bytes ≡ unfinished → ⊥)
+pub chunks_append : (limits : Limits) (before bytes more : List ℕ) → (chunks limits before bytes ≡ unfinished → ⊥)
     → chunks limits before (bytes ++ more) ≡ extended_body (chunks limits before bytes) more
 chunks_append limits before bytes more decided =
     chunks_within_append (suc (length bytes)) limits before bytes more (omega arith) decided
 
 -- ---- bodies
 
-framed_append : (limits : Limits) (bytes more : List ℕ) (f : framing.Framing) → (body_by limits bytes f ≡ unfinished → ⊥)
+pub framed_append : (limits : Limits) (bytes more : List ℕ) (f : framing.Framing) → (body_by limits bytes f ≡ unfinished → ⊥)
     → body_by limits (bytes ++ more) f ≡ extended_body (body_by limits bytes f) more
 framed_append limits bytes more framing.empty decided = refl
 framed_append limits bytes more (framing.sized size) decided =
