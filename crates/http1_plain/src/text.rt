@@ -26,7 +26,10 @@ enum Place {
         alloc: Global,
     },
     /// In the program, or in memory that has several owners. A copy copies no byte.
-    Shared { bytes: Bytes, alloc: Global },
+    Shared {
+        bytes: Bytes,
+        alloc: Global,
+    },
     /// In memory of their own.
     Owned(Octets),
 }
@@ -44,11 +47,10 @@ impl Model for Text {
 fn joined(alloc: Global, front: &[u8], back: &[u8]) -> Result<Octets, AllocError>
     ensures { IfOk result (λ text. text ≡ front.now ++ back.now) }
 {
-    let mut text = Octets::new(alloc);
-    text.reserve(front.len().saturating_add(back.len()))?;
-    text.push_all(front)?;
-    text.push_all(back)?;
-    Ok(text)
+    let mut text = Vec::with_capacity(alloc, front.len().saturating_add(back.len()))?;
+    text.extend_from_slice(front)?;
+    text.extend_from_slice(back)?;
+    Ok(Octets::from_vec(text))
 }
 
 impl Text {

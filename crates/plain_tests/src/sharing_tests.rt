@@ -3,9 +3,7 @@ use crate::bytes::{empty, is as is_text};
 use crate::headers::{lines, value_of};
 use crate::shown::{hold, holds};
 use http::method::Method;
-use http1_plain::{
-    FieldValue, HttpVersion, Limits, NextHead, Response, next_head, write_response,
-};
+use http1_plain::{FieldValue, HttpVersion, Limits, NextHead, Response, next_head, write_response};
 use service_core::Octets;
 use std::alloc::{AllocError, Global};
 use std::test::Fail;
@@ -71,7 +69,11 @@ fn shared_bytes_grow(alloc: Global) -> Result<bool, AllocError> {
 }
 
 fn static_bytes_grow(alloc: Global) -> Result<bool, AllocError> {
-    grow_alone(Ok(FieldValue::from_static(alloc, b"GET")), b"GET", b"GETGET")
+    grow_alone(
+        Ok(FieldValue::from_static(alloc, b"GET")),
+        b"GET",
+        b"GETGET",
+    )
 }
 
 #[test]
@@ -139,7 +141,8 @@ fn has_lines(alloc: Global, text: &[u8], wanted: &[u8]) -> Result<bool, AllocErr
 }
 
 fn are_those_of_its_text(alloc: Global) -> Result<bool, AllocError> {
-    let text = b"GET / HTTP/1.1\r\nHOST: a\r\nX-One: a value of more than 24 bytes\r\nx-TWO: another one of more bytes\r\nx-one:\r\n\r\n".as_slice();
+    let text =
+        b"GET / HTTP/1.1\r\nHOST: a\r\nX-One: a value of more than 24 bytes\r\nx-TWO: another one of more bytes\r\nx-one:\r\n\r\n".as_slice();
     let wanted =
         b"host=a;x-one=a value of more than 24 bytes;x-two=another one of more bytes;x-one=;";
     has_lines(alloc, text, wanted)
@@ -160,7 +163,13 @@ fn static_response(alloc: Global) -> Response {
 fn written(alloc: Global) -> Result<Octets, AllocError> {
     let mut out = empty(alloc);
     let response = static_response(alloc);
-    let wrote = write_response(&mut out, &Method::GET, HttpVersion::Http11, &response, false);
+    let wrote = write_response(
+        &mut out,
+        &Method::GET,
+        HttpVersion::Http11,
+        &response,
+        false,
+    );
     drop(response);
     wrote?;
     Ok(out)
