@@ -13,8 +13,7 @@ use cors_rules::{AllOrSome, CorsError};
 use cors_sets::number_value;
 use http_header::{
     ACCESS_CONTROL_ALLOW_CREDENTIALS, ACCESS_CONTROL_ALLOW_HEADERS, ACCESS_CONTROL_ALLOW_METHODS,
-    ACCESS_CONTROL_ALLOW_ORIGIN, ACCESS_CONTROL_MAX_AGE, ACCESS_CONTROL_REQUEST_HEADERS,
-    ORIGIN,
+    ACCESS_CONTROL_ALLOW_ORIGIN, ACCESS_CONTROL_MAX_AGE, ACCESS_CONTROL_REQUEST_HEADERS, ORIGIN,
 };
 use http1_plain::{ErrorResponse, FieldValue, HeaderList, RequestHead, Response};
 use std::alloc::{AllocError, Global};
