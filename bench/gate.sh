@@ -88,7 +88,7 @@ for crate in [it for it in below if it in spent]:
     print(f"{crate:24}" + "".join(f"{row[it]:8.1f}" for it in KINDS) + f"{sum(row.values()):8.1f}{memory[crate] / 2**20:7.1f}")
 sums = {it: sum(row[it] for row in spent.values()) for it in KINDS}
 print(f"{'all':24}" + "".join(f"{sums[it]:8.1f}" for it in KINDS) + f"{sum(sums.values()):8.1f}{max(memory.values(), default=0) / 2**20:7.1f}")
-last = max(spent, key=ended, default=None)
+last = max(list(spent), key=ended, default=None)
 if last:
     print(f"longest chain: {ended(last):.0f} minutes, to the end of {last}; this run took {wall / 60:.0f} minutes on {os.cpu_count()} processors")
 for crate in [it for it in below if it in spent]:
