@@ -177,8 +177,8 @@ impl ReaderState {
         let len = self.decoded.len();
         let unread = &self.bytes.as_bytes()[self.start..];
         match decode(self.limits, unread, &mut self.decoded, part) {
-            Ok(Decoded::Open(used, part)) => {
-                self.start += used;
+            Ok(Decoded::Open(settled, part)) => {
+                self.start += settled;
                 self.place = Place::Chunks(part);
                 Ok(Step::NeedMore)
             }
