@@ -1,10 +1,9 @@
 pub mod Fields
 pub mod Views
-pub mod Framings
-pub mod Steps
 pub mod Singles
 pub mod Faults
 pub mod ResponseLends
 pub mod NamesLeft
 pub mod Kept
 pub mod Texts
+pub mod DefaultLimits

@@ -17,8 +17,8 @@ use Rattle.http1_grammar.specs.Wire.{Response, wire_of, length_line, refusal, st
 use Rattle.http1_grammar.specs.RequestText.{field_of, section_of, with_field}
 use Rattle.http1_grammar.specs.Limits.{Limits}
 use Rattle.http1_grammar.specs.Next.{next}
-use Rattle.http1_plain.specs.Framings.{capped}
-use Rattle.http1_plain.proofs.FramingSteps.{framing_at}
+use Rattle.http1_head.specs.Framings.{capped}
+use Rattle.http1_head.proofs.FramingSteps.{framing_at}
 use Rattle.http_service.specs.OneRequest.{is_plain_request, is_served_method, not_implemented, on_head, answers_one}
 use Rattle.http_plain.specs.Echo.{echo, echoed}
 use Rattle.http_plain.specs.HandedOn.{headers_of, step_by}

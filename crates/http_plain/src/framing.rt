@@ -5,10 +5,10 @@ ghost use Rattle.std.specs.Char.{is_ascii_digit};
 ghost use Rattle.std.specs.Str.Parse.{digits_value};
 ghost use Rattle.http1_grammar.specs.Framing.{coding_framing, framing, framing_by, number_framing};
 ghost use Rattle.http1_grammar.specs.Headers.{is_named};
-ghost use Rattle.http1_plain.specs.Framings.{capped};
+ghost use Rattle.http1_head.specs.Framings.{capped};
 
 use crate::head::{Head, Header};
-use http1_plain::Framing;
+use http1_head::Framing;
 use std::alloc::{AllocError, Global};
 
 // The headers of the name, in order.

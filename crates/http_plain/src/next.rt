@@ -7,7 +7,8 @@ use crate::framing::framing;
 use crate::head::Head;
 use crate::lines::{count_lines, head_len, skip_empty_lines};
 use crate::request_text::request_head;
-use http1_plain::{Framing, Limits};
+use http1_head::Framing;
+use http1_plain::Limits;
 use service_core::Octets;
 use std::alloc::{AllocError, Global};
 

@@ -1,7 +1,8 @@
 //! Requests cut from bytes.
 use crate::bytes::{add, empty};
 use crate::shown::{every, hold, holds};
-use http1_plain::{Framing, Limits, NextHead, framing_of, next_head};
+use http1_head::{Framing, NextHead, framing_of, next_head};
+use http1_plain::Limits;
 use service_core::Octets;
 use std::alloc::{AllocError, Global};
 use std::test::Fail;
@@ -21,7 +22,7 @@ fn outcome_of(next: &NextHead) -> usize {
     match next {
         NextHead::Nothing => 0,
         NextHead::Refused(status) => usize::from(*status),
-        NextHead::Found(_, used) => 1000usize.saturating_add(*used),
+        NextHead::Found(_, _, used) => 1000usize.saturating_add(*used),
     }
 }
 
@@ -228,7 +229,7 @@ fn are_limits(limits: Limits, head: usize, body: usize) -> bool {
 
 fn is_framed_head(next: &NextHead, wanted: Framing) -> bool {
     match next {
-        NextHead::Found(head, _) => framing_of(head, 9) == wanted,
+        NextHead::Found(head, _, _) => framing_of(head, 9) == wanted,
         _ => false,
     }
 }

@@ -3,7 +3,8 @@ use crate::bytes::{empty, is as is_text};
 use crate::headers::{lines, value_of};
 use crate::shown::{hold, holds};
 use http::method::Method;
-use http1_plain::{FieldValue, HttpVersion, Limits, NextHead, Response, next_head, write_response};
+use http1_head::{NextHead, next_head};
+use http1_plain::{FieldValue, HttpVersion, Limits, Response, write_response};
 use service_core::Octets;
 use std::alloc::{AllocError, Global};
 use std::test::Fail;
@@ -127,7 +128,7 @@ fn detached_values_are_equal(rt: HostRuntime) -> Result<(), Fail> {
 // The headers of the request at the front, told as lines.
 fn header_lines(alloc: Global, next: &NextHead) -> Result<Octets, AllocError> {
     match next {
-        NextHead::Found(head, _) => lines(alloc, &head.headers),
+        NextHead::Found(head, _, _) => lines(alloc, &head.headers),
         _ => Ok(empty(alloc)),
     }
 }

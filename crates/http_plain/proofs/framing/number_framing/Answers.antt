@@ -1,5 +1,5 @@
 use Rattle.std.proofs.Common.{sym, ◌∙◌}
-use Rattle.http1_plain.proofs.FramingSteps.{sized_within, sized_above}
+use Rattle.http1_head.proofs.FramingSteps.{sized_within, sized_above}
 use Rattle.http_plain.proofs.framing.number_framing.Goals as goal
 
 pub returns-in-Some : goal.returns-in-Some

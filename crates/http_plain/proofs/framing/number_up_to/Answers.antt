@@ -1,5 +1,5 @@
 use Rattle.std.proofs.Common.{ℕ, sym, subst, ◌+◌, ◌*◌, refl}
-use Rattle.http1_plain.proofs.FramingSteps.{ValueFrom, value_above, value_more}
+use Rattle.http1_head.proofs.FramingSteps.{ValueFrom, value_above, value_more}
 use Rattle.http_plain.proofs.framing.number_up_to.Goals as goal
 
 pub returns-then-number-most : goal.returns-then-number-most

@@ -1,8 +1,8 @@
 use Rattle.std.proofs.Common.{sym, ap, ◌∙◌, arith}
 use Rattle.http1_grammar.specs.Framing.{framing}
 use Rattle.http1_grammar.specs.Next.{found}
-use Rattle.http1_plain.specs.Framings.{capped}
-use Rattle.http1_plain.proofs.NextSteps.{judge_many, judge_none, judge_found, judge_above, judge_faulty}
+use Rattle.http1_head.specs.Framings.{capped}
+use Rattle.http1_head.proofs.NextSteps.{judge_many, judge_none, judge_found, judge_above, judge_faulty}
 use Rattle.http_plain.proofs.next.judge.Goals as goal
 
 pub returns-then-count_lines-gt-MOST_LINES : goal.returns-then-count_lines-gt-MOST_LINES

@@ -1,0 +1,7 @@
+pub mod ScanSteps
+pub mod PassingSteps
+pub mod HeaderSteps
+pub mod HeadSteps
+pub mod FramingSteps
+pub mod NextSteps
+pub mod TokenSteps

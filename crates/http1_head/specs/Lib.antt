@@ -1,0 +1,3 @@
+pub mod Framings
+pub mod Passing
+pub mod Steps
