@@ -1,5 +1,7 @@
 //! Services that are built of any parts, and asked.
-use crate::questions::{Question, all_hold};
+ghost use Rattle.std.specs.Prelude.{IfOk};
+
+use crate::questions::{Question, built_holds};
 use service_combine::{ServiceExt, pipeline};
 use service_core::{NoMemory, Service};
 use std::alloc::AllocError;
@@ -19,8 +21,7 @@ where
     requires service { S.can_call service }
     requires f { F.IsAlwaysCallable f }
 {
-    let mapped = service.map(rt.alloc(), f)?;
-    all_hold(rt, &mapped, questions)
+    built_holds(rt, service.map(rt.alloc(), f), questions)
 }
 
 /// Whether a service answers so whose errors are changed.
@@ -38,8 +39,25 @@ where
     requires service { S.can_call service }
     requires f { F.IsAlwaysCallable f }
 {
-    let renamed = service.map_err(rt.alloc(), f)?;
-    all_hold(rt, &renamed, questions)
+    built_holds(rt, service.map_err(rt.alloc(), f), questions)
+}
+
+/// Whether a service answers so whose errors are changed once it is built.
+pub(crate) fn built_renamed<S, F, Req, E>(
+    rt: &HostRuntime,
+    service: Result<S, AllocError>,
+    f: F,
+    questions: &[Question<Req, S::Response, E>],
+) -> Result<bool, AllocError>
+where
+    S: Service<Req, Response: PartialEq + Drop> + Drop,
+    F: Fn(S::Error) -> E + Drop,
+    Req: Copy,
+    E: PartialEq + NoMemory,
+    requires service { IfOk service S.can_call }
+    requires f { F.IsAlwaysCallable f }
+{
+    renamed(rt, service?, f, questions)
 }
 
 /// Whether two services answer so, one behind the other.
@@ -56,8 +74,24 @@ where
     requires first { A.can_call first }
     requires second { B.can_call second }
 {
-    let both = first.and_then(rt.alloc(), second)?;
-    all_hold(rt, &both, questions)
+    built_holds(rt, first.and_then(rt.alloc(), second), questions)
+}
+
+/// Whether two services answer so, one behind the other, once both are built.
+fn built_chained<A, B, Req>(
+    rt: &HostRuntime,
+    first: Result<A, AllocError>,
+    second: Result<B, AllocError>,
+    questions: &[Question<Req, B::Response, A::Error>],
+) -> Result<bool, AllocError>
+where
+    A: Service<Req, Error: PartialEq + NoMemory> + Drop,
+    B: Service<A::Response, Response: PartialEq + Drop, Error = A::Error> + Drop,
+    Req: Copy,
+    requires first { IfOk first A.can_call }
+    requires second { IfOk second B.can_call }
+{
+    chained(rt, first?, second?, questions)
 }
 
 /// Whether three services answer so, bracketed to the left.
@@ -77,8 +111,7 @@ where
     requires second { B.can_call second }
     requires third { C.can_call third }
 {
-    let front = first.and_then(rt.alloc(), second)?;
-    chained(rt, front, third, questions)
+    built_chained(rt, first.and_then(rt.alloc(), second), Ok(third), questions)
 }
 
 /// Whether three services answer so, bracketed to the right.
@@ -98,8 +131,7 @@ where
     requires second { B.can_call second }
     requires third { C.can_call third }
 {
-    let back = second.and_then(rt.alloc(), third)?;
-    chained(rt, first, back, questions)
+    built_chained(rt, Ok(first), second.and_then(rt.alloc(), third), questions)
 }
 
 /// Whether two services answer so, each result of the first handed to the second.
@@ -116,6 +148,5 @@ where
     requires first { A.can_call first }
     requires second { B.can_call second }
 {
-    let both = pipeline(first).then(rt.alloc(), second)?;
-    all_hold(rt, &both, questions)
+    built_holds(rt, pipeline(first).then(rt.alloc(), second), questions)
 }

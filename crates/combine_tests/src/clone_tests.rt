@@ -1,24 +1,30 @@
 //! Copies answer as their originals.
-use crate::copies::{begun, chained, handed};
+use crate::copies::{begun, chained, copied, handed};
 use crate::numbers::{Dividing, Mending};
-use crate::questions::{Question, all_hold};
+use crate::questions::Question;
 use crate::service_tests::quarters;
 use crate::services::Fault;
+use crate::shown::{hold, holds};
 use service_combine::ServiceExt;
 use std::alloc::AllocError;
+use std::test::Fail;
 
 #[test]
-fn a_clone_answers_as_its_original(rt: HostRuntime) -> Result<(), AllocError> {
+fn a_clone_answers_as_its_original(rt: HostRuntime) -> Result<(), Fail> {
     let halving = Dividing { by: 2 };
-    let asked = [Question::Answers(42, Ok(7))];
-    assert!(rt; chained(&rt, halving, Dividing { by: 3 }, &asked)?);
+    let divided = [Question::Answers(42, Ok(7))];
     let mending = Mending {
         error: Fault::Bad,
         with: 7,
     };
-    let asked = [Question::Answers(42, Ok(21))];
-    assert!(rt; handed(&rt, halving, mending, &asked)?);
-    Ok(())
+    let mended = [Question::Answers(42, Ok(21))];
+    hold(
+        &rt,
+        &[
+            chained(&rt, halving, Dividing { by: 3 }, &divided),
+            handed(&rt, halving, mending, &mended),
+        ],
+    )
 }
 
 // Half of a number.
@@ -36,9 +42,8 @@ fn copy_halves(
     rt: &HostRuntime,
     questions: &[Question<u32, u32, Fault>],
 ) -> Result<bool, AllocError> {
-    let mapped = ServiceExt::map(Dividing { by: 1 }, rt.alloc(), half)?;
-    let copy = mapped.clone()?;
-    all_hold(rt, &copy, questions)
+    let mapped = ServiceExt::map(Dividing { by: 1 }, rt.alloc(), half);
+    copied(rt, mapped, questions)
 }
 
 // Whether a copy of a service whose errors are changed answers so.
@@ -46,22 +51,24 @@ fn copy_is_renamed(
     rt: &HostRuntime,
     questions: &[Question<u32, u32, Fault>],
 ) -> Result<bool, AllocError> {
-    let renamed = ServiceExt::map_err(Dividing { by: 1 }, rt.alloc(), same)?;
-    let copy = renamed.clone()?;
-    all_hold(rt, &copy, questions)
+    let renamed = ServiceExt::map_err(Dividing { by: 1 }, rt.alloc(), same);
+    copied(rt, renamed, questions)
 }
 
 #[test]
-fn copies_of_changed_services_answer_as_their_originals(rt: HostRuntime) -> Result<(), AllocError> {
-    assert!(rt; copy_halves(&rt, &[Question::Answers(8, Ok(4))])?);
+fn copies_of_changed_services_answer_as_their_originals(rt: HostRuntime) -> Result<(), Fail> {
     let asked = [Question::Answers(8, Ok(8))];
-    assert!(rt; copy_is_renamed(&rt, &asked)?);
-    assert!(rt; begun(&rt, Dividing { by: 1 }, &asked)?);
-    Ok(())
+    hold(
+        &rt,
+        &[
+            copy_halves(&rt, &[Question::Answers(8, Ok(4))]),
+            copy_is_renamed(&rt, &asked),
+            begun(&rt, Dividing { by: 1 }, &asked),
+        ],
+    )
 }
 
 #[test]
-fn a_copy_of_apply_answers_as_its_original(rt: HostRuntime) -> Result<(), AllocError> {
-    assert!(rt; quarters(&rt, Question::Answers(8, Ok(2)))?);
-    Ok(())
+fn a_copy_of_apply_answers_as_its_original(rt: HostRuntime) -> Result<(), Fail> {
+    holds(&rt, quarters(&rt, Question::Answers(8, Ok(2))))
 }

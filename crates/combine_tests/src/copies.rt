@@ -1,8 +1,25 @@
 //! Copies of services that are built of any parts, and asked.
-use crate::questions::{Question, all_hold};
+use crate::questions::{Question, built_holds};
 use service_combine::{ServiceExt, pipeline};
 use service_core::{NoMemory, Service};
 use std::alloc::AllocError;
+
+/// Whether a copy of a service answers so once the original is gone.
+pub(crate) fn copied<S, Req>(
+    rt: &HostRuntime,
+    service: Result<S, AllocError>,
+    questions: &[Question<Req, S::Response, S::Error>],
+) -> Result<bool, AllocError>
+where
+    S: Service<Req, Response: PartialEq + Drop, Error: PartialEq + NoMemory> + Clone + Drop,
+    Req: Copy,
+    requires { (made : _) → S.can_call made }
+{
+    let service = service?;
+    let copy: Result<_, _> = service.clone();
+    drop(service);
+    built_holds(rt, copy, questions)
+}
 
 /// Whether a copy of a pipeline answers so that has begun with a service.
 pub(crate) fn begun<S, Req>(
@@ -13,11 +30,9 @@ pub(crate) fn begun<S, Req>(
 where
     S: Service<Req, Response: PartialEq + Drop, Error: PartialEq + NoMemory> + Clone + Drop,
     Req: Copy,
-    requires { (service : _) → S.can_call service }
+    requires { (made : _) → S.can_call made }
 {
-    let begun = pipeline(service);
-    let copy = begun.clone()?;
-    all_hold(rt, &copy, questions)
+    copied(rt, Ok(pipeline(service)), questions)
 }
 
 /// Whether a copy of two services answers so, one behind the other, once the original is gone.
@@ -31,13 +46,10 @@ where
     A: Service<Req, Error: PartialEq + NoMemory> + Drop,
     B: Service<A::Response, Response: PartialEq + Drop, Error = A::Error> + Drop,
     Req: Copy,
-    requires first { A.can_call first }
-    requires second { B.can_call second }
+    requires first { (made : _) → A.can_call made }
+    requires second { (made : _) → B.can_call made }
 {
-    let both = first.and_then(rt.alloc(), second)?;
-    let copy = both.clone()?;
-    drop(both);
-    all_hold(rt, &copy, questions)
+    copied(rt, first.and_then(rt.alloc(), second), questions)
 }
 
 /// Whether a copy of two services answers so, each result of the first handed to the second, once the original is gone.
@@ -51,11 +63,8 @@ where
     A: Service<Req, Response: Drop, Error: PartialEq + NoMemory> + Drop,
     B: Service<Result<A::Response, A::Error>, Response: PartialEq + Drop, Error = A::Error> + Drop,
     Req: Copy,
-    requires first { A.can_call first }
-    requires second { B.can_call second }
+    requires first { (made : _) → A.can_call made }
+    requires second { (made : _) → B.can_call made }
 {
-    let both = pipeline(first).then(rt.alloc(), second)?;
-    let copy = both.clone()?;
-    drop(both);
-    all_hold(rt, &copy, questions)
+    copied(rt, pipeline(first).then(rt.alloc(), second), questions)
 }

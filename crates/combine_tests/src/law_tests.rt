@@ -3,18 +3,24 @@ use crate::builds::{chained, handed, mapped, to_the_left, to_the_right};
 use crate::numbers::{Dividing, Mending};
 use crate::questions::Question;
 use crate::services::{Fault, Faulty};
+use crate::shown::hold;
 use service_combine::ServiceExt;
 use std::alloc::AllocError;
+use std::test::Fail;
 
 #[test]
-fn chains_answer_alike_however_they_are_bracketed(rt: HostRuntime) -> Result<(), AllocError> {
+fn chains_answer_alike_however_they_are_bracketed(rt: HostRuntime) -> Result<(), Fail> {
     let two = Dividing { by: 2 };
     let three = Dividing { by: 3 };
     let five = Dividing { by: 5 };
     let asked = [Question::Answers(90, Ok(3))];
-    assert!(rt; to_the_left(&rt, two, three, five, &asked)?);
-    assert!(rt; to_the_right(&rt, two, three, five, &asked)?);
-    Ok(())
+    hold(
+        &rt,
+        &[
+            to_the_left(&rt, two, three, five, &asked),
+            to_the_right(&rt, two, three, five, &asked),
+        ],
+    )
 }
 
 // A number as it is.
@@ -37,23 +43,31 @@ fn halves_the_same(
 }
 
 #[test]
-fn two_maps_answer_as_one(rt: HostRuntime) -> Result<(), AllocError> {
+fn two_maps_answer_as_one(rt: HostRuntime) -> Result<(), Fail> {
     let asked = [Question::Answers(8, Ok(4))];
-    assert!(rt; halves_the_same(&rt, &asked)?);
-    assert!(rt; mapped(&rt, Dividing { by: 1 }, half, &asked)?);
-    Ok(())
+    hold(
+        &rt,
+        &[
+            halves_the_same(&rt, &asked),
+            mapped(&rt, Dividing { by: 1 }, half, &asked),
+        ],
+    )
 }
 
 #[test]
-fn an_error_passes_and_then_and_reaches_then(rt: HostRuntime) -> Result<(), AllocError> {
+fn an_error_passes_and_then_and_reaches_then(rt: HostRuntime) -> Result<(), Fail> {
     let faulty = Faulty { fault: Fault::Bad };
-    let asked = [Question::Answers(8, Err(Fault::Bad))];
-    assert!(rt; chained(&rt, faulty, Dividing { by: 2 }, &asked)?);
-    let asked = [Question::Answers(8, Ok(7))];
+    let passed = [Question::Answers(8, Err(Fault::Bad))];
+    let mended = [Question::Answers(8, Ok(7))];
     let mending = Mending {
         error: Fault::Bad,
         with: 7,
     };
-    assert!(rt; handed(&rt, faulty, mending, &asked)?);
-    Ok(())
+    hold(
+        &rt,
+        &[
+            chained(&rt, faulty, Dividing { by: 2 }, &passed),
+            handed(&rt, faulty, mending, &mended),
+        ],
+    )
 }

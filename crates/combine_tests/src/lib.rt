@@ -27,4 +27,6 @@ mod service_tests;
 #[cfg(test)]
 mod services;
 #[cfg(test)]
+mod shown;
+#[cfg(test)]
 mod through;

@@ -1,10 +1,12 @@
 //! What pipelines of services answer.
 use crate::pipelines::chained;
-use crate::questions::{Question, all_hold};
+use crate::questions::{Question, built_holds};
 use crate::service_tests::hands_each_result;
 use crate::services::{Counting, Echo, Failure, Fault, Faulty, Tagging, Tally, Word};
+use crate::shown::{hold, holds};
 use service_combine::{Pipeline, pipeline};
 use std::alloc::AllocError;
+use std::test::Fail;
 
 // A word for a number.
 fn parity(number: u32) -> &'static str {
@@ -17,19 +19,17 @@ fn tells_parity(
     questions: &[Question<u32, &'static str, Fault>],
 ) -> Result<bool, AllocError> {
     let chain: Pipeline<Echo, u32> = pipeline(Echo);
-    let mapped = chain.map(rt.alloc(), parity)?;
-    all_hold(rt, &mapped, questions)
+    built_holds(rt, chain.map(rt.alloc(), parity), questions)
 }
 
 #[test]
-fn a_pipeline_maps_responses(rt: HostRuntime) -> Result<(), AllocError> {
+fn a_pipeline_maps_responses(rt: HostRuntime) -> Result<(), Fail> {
     let asked = [
         Question::Answers(8, Ok("even")),
         Question::Answers(7, Ok("odd")),
         Question::IsReady(Ok(())),
     ];
-    assert!(rt; tells_parity(&rt, &asked)?);
-    Ok(())
+    holds(&rt, tells_parity(&rt, &asked))
 }
 
 // The error of a layer for that of the one behind it.
@@ -40,18 +40,16 @@ fn failure(_: Fault) -> Failure {
 // Whether a pipeline that errs, and has its errors changed, answers so.
 fn errs(rt: &HostRuntime, questions: &[Question<(), (), Failure>]) -> Result<bool, AllocError> {
     let chain: Pipeline<Faulty, ()> = pipeline(Faulty { fault: Fault::Bad });
-    let renamed = chain.map_err(rt.alloc(), failure)?;
-    all_hold(rt, &renamed, questions)
+    built_holds(rt, chain.map_err(rt.alloc(), failure), questions)
 }
 
 #[test]
-fn a_pipeline_maps_errors(rt: HostRuntime) -> Result<(), AllocError> {
+fn a_pipeline_maps_errors(rt: HostRuntime) -> Result<(), Fail> {
     let asked = [
         Question::Answers((), Err(Failure::Mapped)),
         Question::IsReady(Err(Failure::Mapped)),
     ];
-    assert!(rt; errs(&rt, &asked)?);
-    Ok(())
+    holds(&rt, errs(&rt, &asked))
 }
 
 // Whether the second tags each response of the first, where each counts what it is asked.
@@ -66,24 +64,26 @@ fn tags(rt: &HostRuntime, one: &Tally, two: &Tally) -> Result<bool, AllocError> 
 }
 
 #[test]
-fn a_pipeline_hands_each_response_on(rt: HostRuntime) -> Result<(), AllocError> {
+fn a_pipeline_hands_each_response_on(rt: HostRuntime) -> Result<(), Fail> {
     let one = Tally::new();
     let two = Tally::new();
-    assert!(rt; tags(&rt, &one, &two)?);
-    assert!(rt; one.polls.get() == 1);
-    assert!(rt; two.polls.get() == 1);
-    Ok(())
+    hold(
+        &rt,
+        &[
+            tags(&rt, &one, &two),
+            Ok(one.polls.get() == 1),
+            Ok(two.polls.get() == 1),
+        ],
+    )
 }
 
 #[test]
-fn a_pipeline_hands_each_result_on(rt: HostRuntime) -> Result<(), AllocError> {
-    assert!(rt; hands_each_result(&rt)?);
-    Ok(())
+fn a_pipeline_hands_each_result_on(rt: HostRuntime) -> Result<(), Fail> {
+    holds(&rt, hands_each_result(&rt))
 }
 
 #[test]
-fn a_pipeline_answers_the_same_where_it_is_shared(rt: HostRuntime) -> Result<(), AllocError> {
+fn a_pipeline_answers_the_same_where_it_is_shared(rt: HostRuntime) -> Result<(), Fail> {
     let asked = [Question::AnswersEachWay(7, Ok("odd"))];
-    assert!(rt; tells_parity(&rt, &asked)?);
-    Ok(())
+    holds(&rt, tells_parity(&rt, &asked))
 }

@@ -1,5 +1,5 @@
 //! Pipelines that are built of any parts, and asked.
-use crate::questions::{Question, all_hold};
+use crate::questions::{Question, built_holds};
 use service_combine::pipeline;
 use service_core::{NoMemory, Service};
 use std::alloc::AllocError;
@@ -18,6 +18,5 @@ where
     requires first { A.can_call first }
     requires second { B.can_call second }
 {
-    let both = pipeline(first).and_then(rt.alloc(), second)?;
-    all_hold(rt, &both, questions)
+    built_holds(rt, pipeline(first).and_then(rt.alloc(), second), questions)
 }

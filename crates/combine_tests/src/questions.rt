@@ -1,5 +1,5 @@
 //! What a service is asked.
-ghost use Rattle.std.specs.Prelude.{true, ◌≡◌, ⊤};
+ghost use Rattle.std.specs.Prelude.{true, ◌≡◌, ⊤, IfOk};
 
 use crate::services::Asked;
 use futures::Future;
@@ -311,4 +311,21 @@ where
 {
     let task = task(rt)?;
     hold_in_order(&task, rt.alloc(), service, questions)
+}
+
+/// Whether a service answers each question so, in order, once it is built.
+pub(crate) fn built_holds<S, Req>(
+    rt: &HostRuntime,
+    service: Result<S, AllocError>,
+    questions: &[Question<Req, S::Response, S::Error>],
+) -> Result<bool, AllocError>
+where
+    S: Service<Req, Response: PartialEq + Drop, Error: PartialEq + NoMemory> + Drop,
+    Req: Copy,
+    requires { IfOk service S.can_call }
+{
+    match service {
+        Ok(service) => all_hold(rt, &service, questions),
+        Err(_) => Err(AllocError),
+    }
 }

@@ -1,16 +1,18 @@
 //! Programs over services.
-ghost use Rattle.std.specs.Prelude.{◌≡◌};
+ghost use Rattle.std.specs.Prelude.{◌≡◌, IfOk};
 
-use crate::builds::{handed, renamed, to_the_left};
+use crate::builds::{built_renamed, handed, to_the_left};
 use crate::numbers::{Adding, Limited, Mending};
 use crate::questions::{Question, all_hold, both};
 use crate::services::{Awaking, Counting, Echo, Failure, Fault, Faulty, Slow, Tally};
+use crate::shown::{hold, holds};
 use futures::Future;
 use service_combine::{Apply, Pipeline, ServiceExt, apply_fn, pipeline};
 use service_core::{NoMemory, Ready, Service};
 use std::alloc::AllocError;
 use std::cell::Cell;
 use std::rc::Rc;
+use std::test::Fail;
 
 /// Why a gateway gives no page.
 #[derive(Clone, Copy, Drop, PartialEq)]
@@ -47,54 +49,63 @@ fn failure(_: Fault) -> Failure {
     Failure::Mapped
 }
 
-// Whether a pipeline answers so with a fallback behind it.
+// Whether a service answers so with a fallback behind it once it is built.
 fn with_fallback<S>(
     rt: &HostRuntime,
-    chain: Pipeline<S, u32>,
+    service: Result<S, AllocError>,
     row: (u32, u32),
 ) -> Result<bool, AllocError>
 where
     S: Service<u32, Response = u32, Error = Failure> + Drop,
-    requires { ⟦<Pipeline<S, u32> as Service<u32>>⟧.can_call chain }
+    requires { IfOk service S.can_call }
 {
     let fallback = Mending {
         error: Failure::Mapped,
         with: 404,
     };
-    handed(rt, chain, fallback, &[Question::Answers(row.0, Ok(row.1))])
+    handed(
+        rt,
+        service?,
+        fallback,
+        &[Question::Answers(row.0, Ok(row.1))],
+    )
 }
 
 // Whether a pipeline answers so with a limit and a fallback behind it.
 fn with_limit<S>(
     rt: &HostRuntime,
-    chain: Pipeline<S, u32>,
+    chain: Result<Pipeline<S, u32>, AllocError>,
     row: (u32, u32),
 ) -> Result<bool, AllocError>
 where
     S: Service<u32, Response = u32, Error = Failure> + Drop,
-    requires { ⟦<Pipeline<S, u32> as Service<u32>>⟧.can_call chain }
+    requires { IfOk chain ⟦<Pipeline<S, u32> as Service<u32>>⟧.can_call }
 {
     let limit = Limited {
         limit: 500,
         step: 3,
         error: Failure::Mapped,
     };
-    let chain = chain.and_then(rt.alloc(), limit)?;
-    with_fallback(rt, chain, row)
+    match chain {
+        Ok(chain) => with_fallback(rt, chain.and_then(rt.alloc(), limit), row),
+        Err(_) => Err(AllocError),
+    }
 }
 
 // Whether a pipeline answers so with its errors changed, a limit and a fallback behind it.
 fn with_own_errors<S>(
     rt: &HostRuntime,
-    chain: Pipeline<S, u32>,
+    chain: Result<Pipeline<S, u32>, AllocError>,
     row: (u32, u32),
 ) -> Result<bool, AllocError>
 where
     S: Service<u32, Response = u32, Error = Fault> + Drop,
-    requires { ⟦<Pipeline<S, u32> as Service<u32>>⟧.can_call chain }
+    requires { IfOk chain ⟦<Pipeline<S, u32> as Service<u32>>⟧.can_call }
 {
-    let chain = chain.map_err(rt.alloc(), failure)?;
-    with_limit(rt, chain, row)
+    match chain {
+        Ok(chain) => with_limit(rt, chain.map_err(rt.alloc(), failure), row),
+        Err(_) => Err(AllocError),
+    }
 }
 
 // Whether a service answers so under four middlewares more.
@@ -103,8 +114,7 @@ where
     S: Service<u32, Response = u32, Error = Fault> + Drop,
     requires { S.can_call service }
 {
-    let chain = pipeline(service).map(rt.alloc(), ten_times)?;
-    with_own_errors(rt, chain, row)
+    with_own_errors(rt, pipeline(service).map(rt.alloc(), ten_times), row)
 }
 
 // Whether a service that adds answers so under five middlewares.
@@ -118,11 +128,15 @@ fn through_five(rt: &HostRuntime, row: (u32, u32)) -> Result<bool, AllocError> {
 }
 
 #[test]
-fn five_middlewares_each_leave_their_mark(rt: HostRuntime) -> Result<(), AllocError> {
-    assert!(rt; through_five(&rt, (2, 213))?);
-    assert!(rt; through_five(&rt, (4, 413))?);
-    assert!(rt; through_five(&rt, (5, 404))?);
-    Ok(())
+fn five_middlewares_each_leave_their_mark(rt: HostRuntime) -> Result<(), Fail> {
+    hold(
+        &rt,
+        &[
+            through_five(&rt, (2, 213)),
+            through_five(&rt, (4, 413)),
+            through_five(&rt, (5, 404)),
+        ],
+    )
 }
 
 // A gateway's word for an error of a layer.
@@ -146,25 +160,24 @@ where
     requires behind { S.can_call behind }
     requires before { T.can_call before }
 {
-    let chain = behind.and_then(rt.alloc(), before)?;
-    renamed(rt, chain, word_for, &[Question::Answers(7, want)])
+    let asked = [Question::Answers(7, want)];
+    built_renamed(rt, behind.and_then(rt.alloc(), before), word_for, &asked)
 }
 
-// Whether a gateway says so whose service behind has its errors changed.
-fn behind_renamed<S, T>(
+// Whether a gateway says so of a request once the service behind and the one before are built.
+fn built_in_three_layers<S, T>(
     rt: &HostRuntime,
-    behind: S,
-    before: T,
+    behind: Result<S, AllocError>,
+    before: Result<T, AllocError>,
     want: Result<u32, Denied>,
 ) -> Result<bool, AllocError>
 where
-    S: Service<u32, Response = u32, Error = Fault> + Drop,
+    S: Service<u32, Response = u32, Error = Failure> + Drop,
     T: Service<u32, Response = u32, Error = Failure> + Drop,
-    requires behind { S.can_call behind }
-    requires before { T.can_call before }
+    requires behind { IfOk behind S.can_call }
+    requires before { IfOk before T.can_call }
 {
-    let renamed = behind.map_err(rt.alloc(), failure)?;
-    in_three_layers(rt, renamed, before, want)
+    in_three_layers(rt, behind?, before?, want)
 }
 
 // The error of the service before for each fault.
@@ -185,17 +198,21 @@ where
     requires behind { S.can_call behind }
     requires before { T.can_call before }
 {
-    let renamed = before.map_err(rt.alloc(), no_room)?;
-    behind_renamed(rt, behind, renamed, want)
+    let behind = behind.map_err(rt.alloc(), failure);
+    built_in_three_layers(rt, behind, before.map_err(rt.alloc(), no_room), want)
 }
 
 #[test]
-fn each_layer_changes_errors_to_its_own(rt: HostRuntime) -> Result<(), AllocError> {
+fn each_layer_changes_errors_to_its_own(rt: HostRuntime) -> Result<(), Fail> {
     let faulty = Faulty { fault: Fault::Bad };
-    assert!(rt; both_renamed(&rt, faulty, Echo, Err(Denied::Behind))?);
-    assert!(rt; both_renamed(&rt, Echo, faulty, Err(Denied::Before))?);
-    assert!(rt; both_renamed(&rt, Echo, Echo, Ok(7))?);
-    Ok(())
+    hold(
+        &rt,
+        &[
+            both_renamed(&rt, faulty, Echo, Err(Denied::Behind)),
+            both_renamed(&rt, Echo, faulty, Err(Denied::Before)),
+            both_renamed(&rt, Echo, Echo, Ok(7)),
+        ],
+    )
 }
 
 // One more.
@@ -209,7 +226,6 @@ where
     S: Service<u32, Response = u32, Error = Fault> + Drop,
     requires { S.can_call service }
 {
-    let chain = service.map(rt.alloc(), one_more)?;
     let asked = [
         Question::ReadinessWaits,
         Question::ReadinessWaits,
@@ -217,11 +233,11 @@ where
         Question::IsReady(Ok(())),
         Question::AnswersThird(7, Ok(8)),
     ];
-    renamed(rt, chain, failure, &asked)
+    built_renamed(rt, service.map(rt.alloc(), one_more), failure, &asked)
 }
 
 #[test]
-fn a_countdown_is_seen_through_two_combinators(rt: HostRuntime) -> Result<(), AllocError> {
+fn a_countdown_is_seen_through_two_combinators(rt: HostRuntime) -> Result<(), Fail> {
     let counting_down = Awaking {
         service: Slow {
             service: Echo,
@@ -229,8 +245,7 @@ fn a_countdown_is_seen_through_two_combinators(rt: HostRuntime) -> Result<(), Al
         },
         waits: Cell::new(3),
     };
-    assert!(rt; counts_down_through_two(&rt, counting_down)?);
-    Ok(())
+    holds(&rt, counts_down_through_two(&rt, counting_down))
 }
 
 // Twice a number.
@@ -257,15 +272,20 @@ where
     both(once, both(other, again))
 }
 
-// Whether a service answers so beside a pipeline that is built over another.
-fn beside_renamed<F, S>(rt: &HostRuntime, first: F, other: S) -> Result<bool, AllocError>
+// Whether two services answer so in turn once both are built.
+fn built_answer_in_turn<A, B>(
+    rt: &HostRuntime,
+    first: Result<A, AllocError>,
+    second: Result<B, AllocError>,
+) -> Result<bool, AllocError>
 where
-    F: Service<u32, Response = u32, Error = Fault> + Drop,
-    S: Service<u32, Response = u32, Error = Fault> + Drop,
-    requires first { F.can_call first }
-    requires other { S.can_call other }
+    A: Service<u32, Response = u32, Error = Fault> + Drop,
+    B: Service<u32, Response = u32, Error = Denied> + Drop,
+    requires first { IfOk first A.can_call }
+    requires second { IfOk second B.can_call }
 {
-    let second = pipeline(other).map_err(rt.alloc(), behind)?;
+    let first = first?;
+    let second = second?;
     answer_in_turn(rt, &first, &second)
 }
 
@@ -276,8 +296,8 @@ where
     requires one { S.can_call one }
     requires other { S.can_call other }
 {
-    let first = pipeline(one).map(rt.alloc(), twice)?;
-    beside_renamed(rt, first, other)
+    let first = pipeline(one).map(rt.alloc(), twice);
+    built_answer_in_turn(rt, first, pipeline(other).map_err(rt.alloc(), behind))
 }
 
 // Whether two pipelines over one service answer so in turn.
@@ -285,12 +305,16 @@ fn over_one(rt: &HostRuntime, shared: &Rc<Adding>) -> Result<bool, AllocError> {
     in_two_pipelines(rt, shared.clone()?, shared.clone()?)
 }
 
-#[test]
-fn two_pipelines_share_one_service(rt: HostRuntime) -> Result<(), AllocError> {
+// Whether two pipelines over one service answer so in turn, and call it so often.
+fn call_one(rt: &HostRuntime, calls: u32) -> Result<bool, AllocError> {
     let shared = Rc::new(rt.alloc(), Adding::by(1))?;
-    assert!(rt; over_one(&rt, &shared)?);
-    assert!(rt; shared.calls.get() == 3);
-    Ok(())
+    let answered = over_one(rt, &shared);
+    both(answered, Ok(shared.calls.get() == calls))
+}
+
+#[test]
+fn two_pipelines_share_one_service(rt: HostRuntime) -> Result<(), Fail> {
+    holds(&rt, call_one(&rt, 3))
 }
 
 // Whether a service answers so to 7 where one error becomes an answer.
@@ -307,14 +331,18 @@ where
 }
 
 #[test]
-fn a_fallback_answers_in_place_of_one_error(rt: HostRuntime) -> Result<(), AllocError> {
-    assert!(rt; falls_back(&rt, Echo, Ok(7))?);
-    assert!(rt; falls_back(&rt, Faulty { fault: Fault::Bad }, Ok(0))?);
+fn a_fallback_answers_in_place_of_one_error(rt: HostRuntime) -> Result<(), Fail> {
     let worse = Faulty {
         fault: Fault::Worse,
     };
-    assert!(rt; falls_back(&rt, worse, Err(Fault::Worse))?);
-    Ok(())
+    hold(
+        &rt,
+        &[
+            falls_back(&rt, Echo, Ok(7)),
+            falls_back(&rt, Faulty { fault: Fault::Bad }, Ok(0)),
+            falls_back(&rt, worse, Err(Fault::Worse)),
+        ],
+    )
 }
 
 // One step of a validation: it counts, and refuses each number above its limit.
@@ -350,10 +378,14 @@ fn stops_after(
 }
 
 #[test]
-fn a_validation_stops_at_the_first_refusal(rt: HostRuntime) -> Result<(), AllocError> {
-    assert!(rt; stops_after(&rt, (5, Ok(5)), 3)?);
-    assert!(rt; stops_after(&rt, (50, Err(Fault::Memory)), 3)?);
-    assert!(rt; stops_after(&rt, (500, Err(Fault::Worse)), 2)?);
-    assert!(rt; stops_after(&rt, (5000, Err(Fault::Bad)), 1)?);
-    Ok(())
+fn a_validation_stops_at_the_first_refusal(rt: HostRuntime) -> Result<(), Fail> {
+    hold(
+        &rt,
+        &[
+            stops_after(&rt, (5, Ok(5)), 3),
+            stops_after(&rt, (50, Err(Fault::Memory)), 3),
+            stops_after(&rt, (500, Err(Fault::Worse)), 2),
+            stops_after(&rt, (5000, Err(Fault::Bad)), 1),
+        ],
+    )
 }

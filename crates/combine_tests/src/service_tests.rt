@@ -2,19 +2,22 @@
 ghost use Rattle.std.specs.Prelude.{◌≡◌};
 
 use crate::builds::{chained, handed, mapped, renamed};
-use crate::questions::{Question, all_hold, is, task};
+use crate::questions::{Question, all_hold, both, built_holds, is, task};
 use crate::services::{
     Awaking, Counting, Echo, Failure, Fault, Faulty, Obeying, Slow, Summing, Tagging, Tally,
     Unready, Word,
 };
+use crate::shown::{hold, holds};
 use crate::through::{Through, Twelve, tripled};
 use futures::Future;
+use futures::test::MockTask;
 use service_combine::{
     AndThenServiceResponse, Apply, MapErrFuture, MapFuture, ThenServiceResponse, apply_fn,
 };
 use service_core::{NoMemory, Ready, Service};
 use std::alloc::AllocError;
 use std::cell::Cell;
+use std::test::Fail;
 
 /// The text of a response.
 fn fine(_: ()) -> &'static str {
@@ -27,41 +30,40 @@ fn failure(_: Fault) -> Failure {
 }
 
 #[test]
-fn map_changes_each_response(rt: HostRuntime) -> Result<(), AllocError> {
+fn map_changes_each_response(rt: HostRuntime) -> Result<(), Fail> {
     let asked = [
         Question::Answers((), Ok("ok")),
         Question::Answers((), Ok("ok")),
         Question::IsReady(Ok(())),
     ];
-    assert!(rt; mapped(&rt, Echo, fine, &asked)?);
-    Ok(())
+    holds(&rt, mapped(&rt, Echo, fine, &asked))
 }
 
 #[test]
-fn map_leaves_errors_as_they_are(rt: HostRuntime) -> Result<(), AllocError> {
+fn map_leaves_errors_as_they_are(rt: HostRuntime) -> Result<(), Fail> {
     let asked = [
         Question::Answers((), Err(Fault::Bad)),
         Question::IsReady(Err(Fault::Bad)),
     ];
-    assert!(rt; mapped(&rt, Faulty { fault: Fault::Bad }, fine, &asked)?);
-    Ok(())
+    holds(&rt, mapped(&rt, Faulty { fault: Fault::Bad }, fine, &asked))
 }
 
 #[test]
-fn map_err_changes_the_errors_of_calls_and_of_readiness(rt: HostRuntime) -> Result<(), AllocError> {
+fn map_err_changes_the_errors_of_calls_and_of_readiness(rt: HostRuntime) -> Result<(), Fail> {
     let asked = [
         Question::Answers((), Err(Failure::Mapped)),
         Question::IsReady(Err(Failure::Mapped)),
     ];
-    assert!(rt; renamed(&rt, Faulty { fault: Fault::Bad }, failure, &asked)?);
-    Ok(())
+    holds(
+        &rt,
+        renamed(&rt, Faulty { fault: Fault::Bad }, failure, &asked),
+    )
 }
 
 #[test]
-fn map_err_leaves_responses_as_they_are(rt: HostRuntime) -> Result<(), AllocError> {
+fn map_err_leaves_responses_as_they_are(rt: HostRuntime) -> Result<(), Fail> {
     let asked = [Question::Answers(7u32, Ok(7)), Question::IsReady(Ok(()))];
-    assert!(rt; renamed(&rt, Echo, failure, &asked)?);
-    Ok(())
+    holds(&rt, renamed(&rt, Echo, failure, &asked))
 }
 
 /// Whether the second tags each response of the first, where each counts what it is asked.
@@ -76,13 +78,17 @@ fn tags(rt: &HostRuntime, one: &Tally, two: &Tally) -> Result<bool, AllocError> 
 }
 
 #[test]
-fn and_then_hands_each_response_to_the_second(rt: HostRuntime) -> Result<(), AllocError> {
+fn and_then_hands_each_response_to_the_second(rt: HostRuntime) -> Result<(), Fail> {
     let one = Tally::new();
     let two = Tally::new();
-    assert!(rt; tags(&rt, &one, &two)?);
-    assert!(rt; one.polls.get() == 1);
-    assert!(rt; two.polls.get() == 1);
-    Ok(())
+    hold(
+        &rt,
+        &[
+            tags(&rt, &one, &two),
+            Ok(one.polls.get() == 1),
+            Ok(two.polls.get() == 1),
+        ],
+    )
 }
 
 /// Whether an error of the first is the answer, where the second counts what it is asked.
@@ -94,15 +100,16 @@ fn errs_at_once(rt: &HostRuntime, tally: &Tally) -> Result<bool, AllocError> {
 }
 
 #[test]
-fn and_then_does_not_call_the_second_after_an_error(rt: HostRuntime) -> Result<(), AllocError> {
+fn and_then_does_not_call_the_second_after_an_error(rt: HostRuntime) -> Result<(), Fail> {
     let tally = Tally::new();
-    assert!(rt; errs_at_once(&rt, &tally)?);
-    assert!(rt; tally.calls.get() == 0);
-    Ok(())
+    hold(
+        &rt,
+        &[errs_at_once(&rt, &tally), Ok(tally.calls.get() == 0)],
+    )
 }
 
 #[test]
-fn and_then_answers_an_error_of_the_second(rt: HostRuntime) -> Result<(), AllocError> {
+fn and_then_answers_an_error_of_the_second(rt: HostRuntime) -> Result<(), Fail> {
     let second = Faulty {
         fault: Fault::Worse,
     };
@@ -110,8 +117,7 @@ fn and_then_answers_an_error_of_the_second(rt: HostRuntime) -> Result<(), AllocE
         Question::Answers(7u32, Err(Fault::Worse)),
         Question::IsReady(Err(Fault::Worse)),
     ];
-    assert!(rt; chained(&rt, Echo, second, &asked)?);
-    Ok(())
+    holds(&rt, chained(&rt, Echo, second, &asked))
 }
 
 /// Whether the second sums up each result of the first, where each counts what it is asked.
@@ -134,9 +140,8 @@ pub(crate) fn hands_each_result(rt: &HostRuntime) -> Result<bool, AllocError> {
 }
 
 #[test]
-fn then_hands_each_result_to_the_second(rt: HostRuntime) -> Result<(), AllocError> {
-    assert!(rt; hands_each_result(&rt)?);
-    Ok(())
+fn then_hands_each_result_to_the_second(rt: HostRuntime) -> Result<(), Fail> {
+    holds(&rt, hands_each_result(&rt))
 }
 
 /// Echoes, and is pending where it is first asked whether it is ready.
@@ -148,31 +153,25 @@ fn waking() -> Awaking<Echo> {
 }
 
 #[test]
-fn readiness_waits_for_the_first_where_the_second_is_ready(
-    rt: HostRuntime,
-) -> Result<(), AllocError> {
+fn readiness_waits_for_the_first_where_the_second_is_ready(rt: HostRuntime) -> Result<(), Fail> {
     let asked: [Question<u32, u32, Fault>; 2] = [
         Question::ReadinessWaits,
         Question::IsReady(Ok(())),
     ];
-    assert!(rt; chained(&rt, waking(), Echo, &asked)?);
-    Ok(())
+    holds(&rt, chained(&rt, waking(), Echo, &asked))
 }
 
 #[test]
-fn readiness_waits_for_the_second_where_the_first_is_ready(
-    rt: HostRuntime,
-) -> Result<(), AllocError> {
+fn readiness_waits_for_the_second_where_the_first_is_ready(rt: HostRuntime) -> Result<(), Fail> {
     let asked: [Question<u32, u32, Fault>; 2] = [
         Question::ReadinessWaits,
         Question::IsReady(Ok(())),
     ];
-    assert!(rt; chained(&rt, Echo, waking(), &asked)?);
-    Ok(())
+    holds(&rt, chained(&rt, Echo, waking(), &asked))
 }
 
 #[test]
-fn the_first_error_goes_before_the_second(rt: HostRuntime) -> Result<(), AllocError> {
+fn the_first_error_goes_before_the_second(rt: HostRuntime) -> Result<(), Fail> {
     let first = Faulty { fault: Fault::Bad };
     let second = Faulty {
         fault: Fault::Worse,
@@ -181,22 +180,20 @@ fn the_first_error_goes_before_the_second(rt: HostRuntime) -> Result<(), AllocEr
         Question::IsReady(Err(Fault::Bad)),
         Question::Answers(7u32, Err(Fault::Bad)),
     ];
-    assert!(rt; chained(&rt, first, second, &asked)?);
-    Ok(())
+    holds(&rt, chained(&rt, first, second, &asked))
 }
 
 #[test]
-fn the_second_error_comes_while_the_first_waits(rt: HostRuntime) -> Result<(), AllocError> {
+fn the_second_error_comes_while_the_first_waits(rt: HostRuntime) -> Result<(), Fail> {
     let second = Faulty {
         fault: Fault::Worse,
     };
     let asked: [Question<u32, u32, Fault>; 1] = [Question::IsReady(Err(Fault::Worse))];
-    assert!(rt; chained(&rt, waking(), second, &asked)?);
-    Ok(())
+    holds(&rt, chained(&rt, waking(), second, &asked))
 }
 
 #[test]
-fn then_waits_for_the_first_and_errs_with_the_second(rt: HostRuntime) -> Result<(), AllocError> {
+fn then_waits_for_the_first_and_errs_with_the_second(rt: HostRuntime) -> Result<(), Fail> {
     let second = Awaking {
         service: Unready { service: Obeying },
         waits: Cell::new(1),
@@ -205,12 +202,11 @@ fn then_waits_for_the_first_and_errs_with_the_second(rt: HostRuntime) -> Result<
         Question::ReadinessWaits,
         Question::IsReady(Err(Fault::Bad)),
     ];
-    assert!(rt; handed(&rt, waking(), second, &asked)?);
-    Ok(())
+    holds(&rt, handed(&rt, waking(), second, &asked))
 }
 
 #[test]
-fn readiness_is_forwarded_at_each_poll(rt: HostRuntime) -> Result<(), AllocError> {
+fn readiness_is_forwarded_at_each_poll(rt: HostRuntime) -> Result<(), Fail> {
     let service = Awaking {
         service: Echo,
         waits: Cell::new(3),
@@ -221,8 +217,7 @@ fn readiness_is_forwarded_at_each_poll(rt: HostRuntime) -> Result<(), AllocError
         Question::ReadinessWaits,
         Question::IsReady(Ok(())),
     ];
-    assert!(rt; mapped(&rt, service, fine, &asked)?);
-    Ok(())
+    holds(&rt, mapped(&rt, service, fine, &asked))
 }
 
 /// Half of a number.
@@ -293,23 +288,46 @@ fn sums_up(
 }
 
 #[test]
-fn a_call_is_pending_while_a_part_waits(rt: HostRuntime) -> Result<(), AllocError> {
-    assert!(rt; halves(&rt, 2, Question::AnswersThird(8, Ok(4)))?);
-    assert!(rt; errs(&rt, 2, Question::AnswersThird(8, Err(Failure::Mapped)))?);
-    assert!(rt; echo_in_turn(&rt, (1, 1), Question::AnswersThird(8, Ok(8)))?);
+fn a_call_is_pending_while_a_part_waits(rt: HostRuntime) -> Result<(), Fail> {
     let summed = Question::AnswersThird(Word::Srv, Ok((Word::Srv2, Word::Failed)));
-    assert!(rt; sums_up(&rt, summed)?);
-    Ok(())
+    hold(
+        &rt,
+        &[
+            halves(&rt, 2, Question::AnswersThird(8, Ok(4))),
+            errs(&rt, 2, Question::AnswersThird(8, Err(Failure::Mapped))),
+            echo_in_turn(&rt, (1, 1), Question::AnswersThird(8, Ok(8))),
+            sums_up(&rt, summed),
+        ],
+    )
 }
 
 #[test]
-fn a_call_that_waits_can_be_dropped(rt: HostRuntime) -> Result<(), AllocError> {
-    assert!(rt; halves(&rt, 1, Question::Waits(8))?);
-    assert!(rt; echoes(&rt, 1, Question::Waits(8))?);
-    assert!(rt; echo_in_turn(&rt, (0, 1), Question::Waits(8))?);
-    assert!(rt; obeys(&rt, 1, Question::Waits(8))?);
-    assert!(rt; halves(&rt, 0, Question::Answers(8, Ok(4)))?);
-    Ok(())
+fn a_call_that_waits_can_be_dropped(rt: HostRuntime) -> Result<(), Fail> {
+    hold(
+        &rt,
+        &[
+            halves(&rt, 1, Question::Waits(8)),
+            echoes(&rt, 1, Question::Waits(8)),
+            echo_in_turn(&rt, (0, 1), Question::Waits(8)),
+            obeys(&rt, 1, Question::Waits(8)),
+            halves(&rt, 0, Question::Answers(8, Ok(4))),
+        ],
+    )
+}
+
+/// Whether a future gives this at its first poll, where a task polls it.
+fn is_given<F, R, E>(
+    task: &MockTask,
+    mut future: F,
+    want: &Result<R, E>,
+) -> Result<bool, AllocError>
+where
+    F: Future<Output = Result<R, E>> + Drop,
+    R: PartialEq + Drop,
+    E: PartialEq + NoMemory,
+    requires { F.can_poll future }
+{
+    is(task.poll(&mut future), want)
 }
 
 /// Whether a future gives this at its first poll.
@@ -320,23 +338,48 @@ where
     E: PartialEq + NoMemory,
     requires { F.can_poll future }
 {
-    let task = task(rt)?;
-    let mut future = future;
-    is(task.poll(&mut future), &want)
+    match task(rt) {
+        Ok(task) => is_given(&task, future, &want),
+        Err(_) => Err(AllocError),
+    }
+}
+
+/// Whether this comes of a call whose closure could not be shared.
+fn map_is_refused(rt: &HostRuntime, want: Result<u32, Fault>) -> Result<bool, AllocError> {
+    let mapped: MapFuture<Ready<Result<u32, Fault>>, fn(u32) -> u32> = MapFuture::refused();
+    gives(rt, mapped, want)
+}
+
+/// Whether this comes of a call whose closure over errors could not be shared.
+fn map_err_is_refused(rt: &HostRuntime, want: Result<u32, Failure>) -> Result<bool, AllocError> {
+    let renamed: MapErrFuture<Ready<Result<u32, Fault>>, fn(Fault) -> Failure> =
+        MapErrFuture::refused();
+    gives(rt, renamed, want)
+}
+
+/// Whether this comes of a call of two services that could not be shared, one behind the other.
+fn and_then_is_refused(rt: &HostRuntime, want: Result<u32, Fault>) -> Result<bool, AllocError> {
+    let chained: AndThenServiceResponse<Echo, Echo, u32> = AndThenServiceResponse::refused();
+    gives(rt, chained, want)
+}
+
+/// Whether this comes of a call of two services that could not be shared, each result of the first handed to the second.
+fn then_is_refused(rt: &HostRuntime, want: Result<u32, Fault>) -> Result<bool, AllocError> {
+    let handed: ThenServiceResponse<Echo, Obeying, u32> = ThenServiceResponse::refused();
+    gives(rt, handed, want)
 }
 
 #[test]
-fn parts_that_cannot_be_shared_are_want_of_memory(rt: HostRuntime) -> Result<(), AllocError> {
-    let mapped: MapFuture<Ready<Result<u32, Fault>>, fn(u32) -> u32> = MapFuture::refused();
-    assert!(rt; gives(&rt, mapped, Err(Fault::Memory))?);
-    let renamed: MapErrFuture<Ready<Result<u32, Fault>>, fn(Fault) -> Failure> =
-        MapErrFuture::refused();
-    assert!(rt; gives(&rt, renamed, Err(Failure::NoRoom))?);
-    let chained: AndThenServiceResponse<Echo, Echo, u32> = AndThenServiceResponse::refused();
-    assert!(rt; gives(&rt, chained, Err(Fault::Memory))?);
-    let handed: ThenServiceResponse<Echo, Obeying, u32> = ThenServiceResponse::refused();
-    assert!(rt; gives(&rt, handed, Err(Fault::Memory))?);
-    Ok(())
+fn parts_that_cannot_be_shared_are_want_of_memory(rt: HostRuntime) -> Result<(), Fail> {
+    hold(
+        &rt,
+        &[
+            map_is_refused(&rt, Err(Fault::Memory)),
+            map_err_is_refused(&rt, Err(Failure::NoRoom)),
+            and_then_is_refused(&rt, Err(Fault::Memory)),
+            then_is_refused(&rt, Err(Fault::Memory)),
+        ],
+    )
 }
 
 /// Asks for a quarter of a number.
@@ -346,20 +389,23 @@ fn asks_a_quarter(req: u32, service: &Echo) -> Ready<Result<u32, Fault>>
     service.call(req / 4)
 }
 
-/// Whether two services answer so.
-fn both_answer<S>(
+/// Whether a service answers so once it is built, and a copy of it too.
+fn answers_as_its_copy<S>(
     rt: &HostRuntime,
-    one: &S,
-    other: &S,
+    service: Result<S, AllocError>,
     question: Question<u32, u32, Fault>,
 ) -> Result<bool, AllocError>
 where
-    S: Service<u32, Response = u32, Error = Fault> + Drop,
-    requires one { S.can_call one.now }
-    requires other { S.can_call other.now }
+    S: Service<u32, Response = u32, Error = Fault> + Clone + Drop,
+    requires { (made : _) → S.can_call made }
 {
+    let service = service?;
     let asked = [question];
-    Ok(all_hold(rt, one, &asked)? && all_hold(rt, other, &asked)?)
+    let copy: Result<_, _> = service.clone();
+    both(
+        all_hold(rt, &service, &asked),
+        built_holds(rt, copy, &asked),
+    )
 }
 
 /// Whether a service that is lent to a closure, which asks for a quarter, answers so, and a copy of it too.
@@ -367,19 +413,26 @@ pub(crate) fn quarters(
     rt: &HostRuntime,
     question: Question<u32, u32, Fault>,
 ) -> Result<bool, AllocError> {
-    let applied: Apply<_, _, u32, u32, u32, Fault> = apply_fn(rt.alloc(), Echo, asks_a_quarter)?;
-    let copy = applied.clone()?;
-    both_answer(rt, &applied, &copy, question)
+    let applied: Result<Apply<_, _, u32, u32, u32, Fault>, _> = apply_fn(
+        rt.alloc(),
+        Echo,
+        asks_a_quarter,
+    );
+    answers_as_its_copy(rt, applied, question)
 }
 
 #[test]
-fn each_service_answers_the_same_each_way(rt: HostRuntime) -> Result<(), AllocError> {
-    assert!(rt; halves(&rt, 0, Question::AnswersEachWay(8, Ok(4)))?);
-    assert!(rt; echoes(&rt, 0, Question::AnswersEachWay(8, Ok(8)))?);
-    assert!(rt; echo_in_turn(&rt, (0, 0), Question::AnswersEachWay(8, Ok(8)))?);
-    assert!(rt; obeys(&rt, 0, Question::AnswersEachWay(8, Ok(8)))?);
-    assert!(rt; quarters(&rt, Question::AnswersEachWay(8, Ok(2)))?);
-    Ok(())
+fn each_service_answers_the_same_each_way(rt: HostRuntime) -> Result<(), Fail> {
+    hold(
+        &rt,
+        &[
+            halves(&rt, 0, Question::AnswersEachWay(8, Ok(4))),
+            echoes(&rt, 0, Question::AnswersEachWay(8, Ok(8))),
+            echo_in_turn(&rt, (0, 0), Question::AnswersEachWay(8, Ok(8))),
+            obeys(&rt, 0, Question::AnswersEachWay(8, Ok(8))),
+            quarters(&rt, Question::AnswersEachWay(8, Ok(2))),
+        ],
+    )
 }
 
 /// Twelve times `tripled`.
@@ -394,12 +447,16 @@ fn twelve_answer_as_one(rt: &HostRuntime, req: u32) -> Result<bool, AllocError> 
 }
 
 #[test]
-fn twelve_maps_answer_as_one(rt: HostRuntime) -> Result<(), AllocError> {
-    assert!(rt; twelve_answer_as_one(&rt, 0)?);
-    assert!(rt; twelve_answer_as_one(&rt, 1)?);
-    assert!(rt; twelve_answer_as_one(&rt, 1000)?);
-    assert!(rt; twelve_answer_as_one(&rt, u32::MAX)?);
-    Ok(())
+fn twelve_maps_answer_as_one(rt: HostRuntime) -> Result<(), Fail> {
+    hold(
+        &rt,
+        &[
+            twelve_answer_as_one(&rt, 0),
+            twelve_answer_as_one(&rt, 1),
+            twelve_answer_as_one(&rt, 1000),
+            twelve_answer_as_one(&rt, u32::MAX),
+        ],
+    )
 }
 
 /// Asks for a word beside nothing.
@@ -412,25 +469,27 @@ fn asks_beside(word: Word, service: &Counting<'_, Echo>) -> Ready<Result<(Word, 
 /// Whether a service that counts what it is asked answers so, lent to a closure that asks beside nothing.
 fn answers_beside(rt: &HostRuntime, tally: &Tally) -> Result<bool, AllocError> {
     let service = Counting::over(Echo, tally);
-    let applied: Apply<_, _, Word, (Word, ()), (Word, ()), Fault> = apply_fn(
+    let applied: Result<Apply<_, _, Word, (Word, ()), (Word, ()), Fault>, _> = apply_fn(
         rt.alloc(),
         service,
         asks_beside,
-    )?;
+    );
     let asked = [
         Question::Answers(Word::Srv, Ok((Word::Srv, ()))),
         Question::IsReady(Ok(())),
     ];
-    all_hold(rt, &applied, &asked)
+    built_holds(rt, applied, &asked)
 }
 
 #[test]
-fn apply_fn_hands_its_closure_the_request_and_the_service(
-    rt: HostRuntime,
-) -> Result<(), AllocError> {
+fn apply_fn_hands_its_closure_the_request_and_the_service(rt: HostRuntime) -> Result<(), Fail> {
     let tally = Tally::new();
-    assert!(rt; answers_beside(&rt, &tally)?);
-    assert!(rt; tally.polls.get() == 1);
-    assert!(rt; tally.calls.get() == 1);
-    Ok(())
+    hold(
+        &rt,
+        &[
+            answers_beside(&rt, &tally),
+            Ok(tally.polls.get() == 1),
+            Ok(tally.calls.get() == 1),
+        ],
+    )
 }

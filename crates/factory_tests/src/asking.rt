@@ -61,11 +61,12 @@ where
     requires { F.can_make factory.now }
 {
     let task = task(rt)?;
-    making_shows(&task, factory.new_service(cfg.again()), asked)
+    let mut making = factory.new_service(cfg.again());
+    making_shows(&task, &mut making, asked)
 }
 
 /// Whether a factory shows what it has to where it is shared by `Rc`.
-fn shows_counted<F, Req>(
+pub(crate) fn shows_counted<F, Req>(
     rt: &HostRuntime,
     factory: F,
     cfg: &F::Config,
@@ -89,7 +90,7 @@ where
 }
 
 /// Whether a factory shows what it has to where it is shared by `Arc`.
-fn shows_shared<F, Req>(
+pub(crate) fn shows_shared<F, Req>(
     rt: &HostRuntime,
     factory: F,
     cfg: &F::Config,
@@ -163,10 +164,87 @@ where
     requires factory { F.can_make factory }
     requires copy { IfOk copy F.can_make }
 {
-    let copy = copy?;
-    if order.each_way {
-        show_each_way(rt, factory, copy, &order.cfg, asked)
-    } else {
-        shows(rt, &factory, &order.cfg, asked)
+    match copy {
+        Ok(copy) if order.each_way => show_each_way(rt, factory, copy, &order.cfg, asked),
+        Ok(_) => shows(rt, &factory, &order.cfg, asked),
+        Err(_) => Err(AllocError),
+    }
+}
+
+/// Whether a factory shows what it has to once it is built.
+pub(crate) fn built_shows<F, Req>(
+    rt: &HostRuntime,
+    factory: Result<F, AllocError>,
+    cfg: &F::Config,
+    asked: &Asked<Req, F::Response, F::Error, F::InitError>,
+) -> Result<bool, AllocError>
+where
+    Req: Copy + Drop,
+    F: ServiceFactory<
+        Req,
+        Config: Again,
+        Response: PartialEq + Drop,
+        Error: NoMemory + PartialEq,
+        Service: Drop,
+        InitError: NoMemory + PartialEq,
+    >
+        + Drop,
+    requires { IfOk factory F.can_make }
+{
+    match factory {
+        Ok(factory) => shows(rt, &factory, cfg, asked),
+        Err(_) => Err(AllocError),
+    }
+}
+
+/// Whether a factory and its copy show what they have to, the copy made of it.
+fn shows_as_its_copy<F, Req>(
+    rt: &HostRuntime,
+    factory: F,
+    order: &Order<F::Config>,
+    asked: &Asked<Req, F::Response, F::Error, F::InitError>,
+) -> Result<bool, AllocError>
+where
+    Req: Copy + Drop,
+    F: ServiceFactory<
+        Req,
+        Config: Again,
+        Response: PartialEq + Drop,
+        Error: NoMemory + PartialEq,
+        Service: Drop,
+        InitError: NoMemory + PartialEq,
+    >
+        + Clone
+        + Drop,
+    requires factory { (made : _) → F.can_make made }
+{
+    let copy: Result<_, _> = factory.clone();
+    both_show(rt, factory, copy, order, asked)
+}
+
+/// Whether a factory and its copy show what they have to once it is built.
+pub(crate) fn built_and_copied<F, Req>(
+    rt: &HostRuntime,
+    factory: Result<F, AllocError>,
+    order: &Order<F::Config>,
+    asked: &Asked<Req, F::Response, F::Error, F::InitError>,
+) -> Result<bool, AllocError>
+where
+    Req: Copy + Drop,
+    F: ServiceFactory<
+        Req,
+        Config: Again,
+        Response: PartialEq + Drop,
+        Error: NoMemory + PartialEq,
+        Service: Drop,
+        InitError: NoMemory + PartialEq,
+    >
+        + Clone
+        + Drop,
+    requires factory { (made : _) → F.can_make made }
+{
+    match factory {
+        Ok(factory) => shows_as_its_copy(rt, factory, order, asked),
+        Err(_) => Err(AllocError),
     }
 }

@@ -1,6 +1,6 @@
 //! Factories that change what their parts make, whatever the parts.
 
-use crate::asking::{Order, both_show, shows};
+use crate::asking::{Order, built_and_copied, built_shows};
 use crate::making::Asked;
 use crate::naming::{excuse, failure, half, ok_of};
 use crate::words::{Denial, Failure, Fault};
@@ -28,9 +28,8 @@ where
         + Drop,
     requires factory { (made : _) → A.can_make made }
 {
-    let mapped = ServiceFactoryExt::map(factory, rt.alloc(), ok_of)?;
-    let copy: Result<_, _> = mapped.clone();
-    both_show(rt, mapped, copy, order, asked)
+    let mapped = ServiceFactoryExt::map(factory, rt.alloc(), ok_of);
+    built_and_copied(rt, mapped, order, asked)
 }
 
 /// Whether a factory whose responses are halved shows what it has to.
@@ -53,9 +52,8 @@ where
         + Drop,
     requires factory { (made : _) → A.can_make made }
 {
-    let mapped = ServiceFactoryExt::map(factory, rt.alloc(), half)?;
-    let copy: Result<_, _> = mapped.clone();
-    both_show(rt, mapped, copy, order, asked)
+    let mapped = ServiceFactoryExt::map(factory, rt.alloc(), half);
+    built_and_copied(rt, mapped, order, asked)
 }
 
 /// Whether a factory whose services' errors are changed shows what it has to.
@@ -79,9 +77,8 @@ where
         + Drop,
     requires factory { (made : _) → A.can_make made }
 {
-    let renamed = ServiceFactoryExt::map_err(factory, rt.alloc(), failure)?;
-    let copy: Result<_, _> = renamed.clone();
-    both_show(rt, renamed, copy, order, asked)
+    let renamed = ServiceFactoryExt::map_err(factory, rt.alloc(), failure);
+    built_and_copied(rt, renamed, order, asked)
 }
 
 /// Whether a factory whose own errors are changed shows what it has to.
@@ -104,9 +101,8 @@ where
         + Drop,
     requires factory { (made : _) → A.can_make made }
 {
-    let excused = ServiceFactoryExt::map_init_err(factory, rt.alloc(), excuse)?;
-    let copy: Result<_, _> = excused.clone();
-    both_show(rt, excused, copy, order, asked)
+    let excused = ServiceFactoryExt::map_init_err(factory, rt.alloc(), excuse);
+    built_and_copied(rt, excused, order, asked)
 }
 
 /// Whether a pipeline that is mapped shows what it has to.
@@ -128,8 +124,7 @@ where
     requires { A.can_make factory }
 {
     let chain: PipelineFactory<A, ()> = pipeline_factory(factory);
-    let mapped = chain.map(rt.alloc(), ok_of)?;
-    shows(rt, &mapped, &1, asked)
+    built_shows(rt, chain.map(rt.alloc(), ok_of), &1, asked)
 }
 
 /// Whether a pipeline whose services' errors are changed shows what it has to.
@@ -151,8 +146,7 @@ where
     requires { A.can_make factory }
 {
     let chain: PipelineFactory<A, ()> = pipeline_factory(factory);
-    let renamed = chain.map_err(rt.alloc(), failure)?;
-    shows(rt, &renamed, &1, asked)
+    built_shows(rt, chain.map_err(rt.alloc(), failure), &1, asked)
 }
 
 /// Whether a pipeline whose own errors are changed shows what it has to.
@@ -174,6 +168,5 @@ where
     requires { A.can_make factory }
 {
     let chain: PipelineFactory<A, u32> = pipeline_factory(factory);
-    let excused = chain.map_init_err(rt.alloc(), excuse)?;
-    shows(rt, &excused, &1, asked)
+    built_shows(rt, chain.map_init_err(rt.alloc(), excuse), &1, asked)
 }

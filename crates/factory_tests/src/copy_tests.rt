@@ -1,13 +1,16 @@
 //! Copies of factories make what their originals make.
 
 use crate::asking::{both, each_way};
+use crate::config_tests::{self, adds, adds_once_ready, frees, says, tells, tells_half};
 use crate::factory_tests::{excuses, halves, renames};
 use crate::makers::copies;
 use crate::making::Asked;
 use crate::pairing::{chained, handed};
 use crate::services::{Halving, Obeying};
-use crate::words::{Denial, Fault};
+use crate::shown::{hold, holds};
+use crate::words::{Denial, Fault, Word};
 use std::alloc::AllocError;
+use std::test::Fail;
 
 /// Whether each changed factory and its copy make the same, each way.
 pub(crate) fn changed_make_the_same(rt: &HostRuntime, cfg: u32) -> Result<bool, AllocError> {
@@ -19,11 +22,8 @@ pub(crate) fn changed_make_the_same(rt: &HostRuntime, cfg: u32) -> Result<bool, 
 }
 
 #[test]
-fn copies_of_changed_factories_make_what_their_originals_make(
-    rt: HostRuntime,
-) -> Result<(), AllocError> {
-    assert!(rt; changed_make_the_same(&rt, 3)?);
-    Ok(())
+fn copies_of_changed_factories_make_what_their_originals_make(rt: HostRuntime) -> Result<(), Fail> {
+    holds(&rt, changed_make_the_same(&rt, 3))
 }
 
 /// Whether a pipeline of two parts that halve shows what it has to each way.
@@ -47,8 +47,55 @@ fn halves_and_obeys(
 #[test]
 fn copies_of_pairs_of_factories_make_what_their_originals_make(
     rt: HostRuntime,
-) -> Result<(), AllocError> {
-    assert!(rt; quarters(&rt, 3, &Asked::Served(8, Ok(2)))?);
-    assert!(rt; halves_and_obeys(&rt, 3, &Asked::Served(8, Ok(4)))?);
-    Ok(())
+) -> Result<(), Fail> {
+    hold(
+        &rt,
+        &[
+            quarters(&rt, 3, &Asked::Served(8, Ok(2))),
+            halves_and_obeys(&rt, 3, &Asked::Served(8, Ok(4))),
+        ],
+    )
+}
+
+#[test]
+fn copies_over_configurations_make_what_their_originals_make(rt: HostRuntime) -> Result<(), Fail> {
+    hold(
+        &rt,
+        &[
+            tells_half(&rt, &each_way(8), &Asked::Served((), Ok(4))),
+            frees(&rt, &each_way(3), &Asked::Served(8, Ok(8))),
+        ],
+    )
+}
+
+#[test]
+fn copies_of_factories_of_closures_make_what_their_originals_make(
+    rt: HostRuntime,
+) -> Result<(), Fail> {
+    hold(
+        &rt,
+        &[
+            says(&rt, &each_way(3), &Asked::Served((), Ok("srv"))),
+            tells(&rt, &each_way(3), &Asked::Served((), Ok((Word::Srv, 3)))),
+        ],
+    )
+}
+
+#[test]
+fn copies_of_applied_factories_make_what_their_originals_make(rt: HostRuntime) -> Result<(), Fail> {
+    hold(
+        &rt,
+        &[
+            adds(&rt, &each_way(3), &Asked::Served(8, Ok(11))),
+            adds_once_ready(&rt, 0, &each_way(3), &Asked::Served(8, Ok(11))),
+        ],
+    )
+}
+
+#[test]
+fn a_copy_of_an_applied_factory_makes_what_its_original_makes(rt: HostRuntime) -> Result<(), Fail> {
+    holds(
+        &rt,
+        config_tests::quarters(&rt, 0, &each_way(3), &Asked::Served(8, Ok(2))),
+    )
 }

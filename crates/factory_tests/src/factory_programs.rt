@@ -1,14 +1,17 @@
 //! Programs over factories of services.
+ghost use Rattle.std.specs.Prelude.{IfOk};
 
-use crate::asking::shows;
+use crate::asking::built_shows;
 use crate::makers::{Steps, copies, denies};
 use crate::making::Asked;
 use crate::services::Echo;
+use crate::shown::hold;
 use crate::startup::{Doubling, Startup};
 use crate::words::{Denial, Fault};
 use service_combine::{PipelineFactory, pipeline_factory};
 use service_core::{ServiceFactory, apply};
 use std::alloc::{AllocError, AllocGlobal};
+use std::test::Fail;
 
 // Twice a number.
 fn twice(number: u32) -> u32 {
@@ -26,7 +29,7 @@ fn at_startup(denial: Denial) -> Startup {
 // Whether a pipeline of factories shows what it has to, with its errors in the program's own type.
 fn shows_in_own_type<F>(
     rt: &HostRuntime,
-    chain: PipelineFactory<F, u32>,
+    chain: Result<PipelineFactory<F, u32>, AllocError>,
     cfg: u32,
     asked: &Asked<u32, u32, Fault, Startup>,
 ) -> Result<bool, AllocError>
@@ -40,16 +43,18 @@ where
         Service: Drop,
     >
         + Drop,
-    requires { ⟦<PipelineFactory<F, u32> as ServiceFactory<u32>>⟧.can_make chain }
+    requires { IfOk chain ⟦<PipelineFactory<F, u32> as ServiceFactory<u32>>⟧.can_make }
 {
-    let factory = chain.map_init_err(rt.alloc(), at_startup)?;
-    shows(rt, &factory, &cfg, asked)
+    match chain {
+        Ok(chain) => built_shows(rt, chain.map_init_err(rt.alloc(), at_startup), &cfg, asked),
+        Err(_) => Err(AllocError),
+    }
 }
 
 // Whether a pipeline of factories shows what it has to, with its responses doubled.
 fn shows_doubled<F>(
     rt: &HostRuntime,
-    chain: PipelineFactory<F, u32>,
+    chain: Result<PipelineFactory<F, u32>, AllocError>,
     cfg: u32,
     asked: &Asked<u32, u32, Fault, Startup>,
 ) -> Result<bool, AllocError>
@@ -63,10 +68,12 @@ where
         Service: Drop,
     >
         + Drop,
-    requires { ⟦<PipelineFactory<F, u32> as ServiceFactory<u32>>⟧.can_make chain }
+    requires { IfOk chain ⟦<PipelineFactory<F, u32> as ServiceFactory<u32>>⟧.can_make }
 {
-    let chain = chain.map(rt.alloc(), twice)?;
-    shows_in_own_type(rt, chain, cfg, asked)
+    match chain {
+        Ok(chain) => shows_in_own_type(rt, chain.map(rt.alloc(), twice), cfg, asked),
+        Err(_) => Err(AllocError),
+    }
 }
 
 // Whether two factories show what they have to, one behind the other.
@@ -99,7 +106,7 @@ where
     requires first { A.can_make first }
     requires second { B.can_make second }
 {
-    let chain = pipeline_factory(first).and_then(rt.alloc(), second)?;
+    let chain = pipeline_factory(first).and_then(rt.alloc(), second);
     shows_doubled(rt, chain, cfg, asked)
 }
 
@@ -113,14 +120,10 @@ fn adds(
 }
 
 #[test]
-fn a_pipeline_of_factories_errs_in_the_programs_own_type(
-    rt: HostRuntime,
-) -> Result<(), AllocError> {
+fn a_pipeline_of_factories_errs_in_the_programs_own_type(rt: HostRuntime) -> Result<(), Fail> {
     let answer = Asked::Served(7, Ok(20));
-    assert!(rt; adds(&rt, 3, &answer)?);
     let error = Asked::Denied(Startup::Service);
-    assert!(rt; adds(&rt, 0, &error)?);
-    Ok(())
+    hold(&rt, &[adds(&rt, 3, &answer), adds(&rt, 0, &error)])
 }
 
 // One more.
@@ -131,7 +134,7 @@ fn one_more(number: u32) -> u32 {
 // Whether a factory shows what it has to under a transform.
 fn shows_wrapped<F>(
     rt: &HostRuntime,
-    inner: F,
+    inner: Result<F, AllocError>,
     doubling: Doubling,
     asked: &Asked<u32, u32, Fault, Startup>,
 ) -> Result<bool, AllocError>
@@ -145,10 +148,12 @@ where
         Service: Drop,
     >
         + Drop,
-    requires { F.can_make inner }
+    requires { IfOk inner F.can_make }
 {
-    let wrapped = apply(rt.alloc(), doubling, inner)?;
-    shows(rt, &wrapped, &(), asked)
+    match inner {
+        Ok(inner) => built_shows(rt, apply(rt.alloc(), doubling, inner), &(), asked),
+        Err(_) => Err(AllocError),
+    }
 }
 
 // Whether a pipeline over a factory shows what it has to under a transform.
@@ -170,7 +175,7 @@ where
         + Drop,
     requires { F.can_make makes }
 {
-    let inner = pipeline_factory(makes).map(rt.alloc(), one_more)?;
+    let inner = pipeline_factory(makes).map(rt.alloc(), one_more);
     shows_wrapped(rt, inner, doubling, asked)
 }
 
@@ -193,14 +198,18 @@ fn is_denied(
 }
 
 #[test]
-fn a_transform_stands_over_a_pipeline_of_factories(rt: HostRuntime) -> Result<(), AllocError> {
+fn a_transform_stands_over_a_pipeline_of_factories(rt: HostRuntime) -> Result<(), Fail> {
     let whole = Doubling { is_broken: false };
     let broken = Doubling { is_broken: true };
     let answer = Asked::Served(7, Ok(15));
-    assert!(rt; echoes(&rt, whole, &answer)?);
     let wrapping = Asked::Denied(Startup::Wrapping);
-    assert!(rt; echoes(&rt, broken, &wrapping)?);
     let service = Asked::Denied(Startup::Service);
-    assert!(rt; is_denied(&rt, whole, &service)?);
-    Ok(())
+    hold(
+        &rt,
+        &[
+            echoes(&rt, whole, &answer),
+            echoes(&rt, broken, &wrapping),
+            is_denied(&rt, whole, &service),
+        ],
+    )
 }

@@ -7,10 +7,12 @@ use crate::makers::{Passing, Tags, copies, copies_late, denies, denies_late, sco
 use crate::making::Asked;
 use crate::pairing::paired;
 use crate::services::{Echo, Faulty, Tagging};
+use crate::shown::{hold, holds};
 use crate::transforms::excused_transform;
 use crate::words::{Denial, Failure, Fault, Mark, Single, Word};
 use std::alloc::AllocError;
 use std::cell::Cell;
+use std::test::Fail;
 
 /// Whether a factory of services that answer, which is mapped, shows what it has to.
 fn maps(
@@ -21,10 +23,14 @@ fn maps(
 }
 
 #[test]
-fn map_changes_the_responses_of_made_services(rt: HostRuntime) -> Result<(), AllocError> {
-    assert!(rt; maps(&rt, &Asked::Served((), Ok("ok")))?);
-    assert!(rt; maps(&rt, &Asked::Readied(Ok(())))?);
-    Ok(())
+fn map_changes_the_responses_of_made_services(rt: HostRuntime) -> Result<(), Fail> {
+    hold(
+        &rt,
+        &[
+            maps(&rt, &Asked::Served((), Ok("ok"))),
+            maps(&rt, &Asked::Readied(Ok(()))),
+        ],
+    )
 }
 
 /// Whether a factory of services that err, which is mapped, shows what it has to.
@@ -37,10 +43,14 @@ fn maps_faulty(
 }
 
 #[test]
-fn map_leaves_the_errors_of_made_services(rt: HostRuntime) -> Result<(), AllocError> {
-    assert!(rt; maps_faulty(&rt, &Asked::Served((), Err(Fault::Bad)))?);
-    assert!(rt; maps_faulty(&rt, &Asked::Readied(Err(Fault::Bad)))?);
-    Ok(())
+fn map_leaves_the_errors_of_made_services(rt: HostRuntime) -> Result<(), Fail> {
+    hold(
+        &rt,
+        &[
+            maps_faulty(&rt, &Asked::Served((), Err(Fault::Bad))),
+            maps_faulty(&rt, &Asked::Readied(Err(Fault::Bad))),
+        ],
+    )
 }
 
 /// Whether a factory of services that err, whose errors are changed, shows what it has to.
@@ -53,10 +63,14 @@ fn renames_faulty(
 }
 
 #[test]
-fn map_err_changes_the_errors_of_made_services(rt: HostRuntime) -> Result<(), AllocError> {
-    assert!(rt; renames_faulty(&rt, &Asked::Served((), Err(Failure::Mapped)))?);
-    assert!(rt; renames_faulty(&rt, &Asked::Readied(Err(Failure::Mapped)))?);
-    Ok(())
+fn map_err_changes_the_errors_of_made_services(rt: HostRuntime) -> Result<(), Fail> {
+    hold(
+        &rt,
+        &[
+            renames_faulty(&rt, &Asked::Served((), Err(Failure::Mapped))),
+            renames_faulty(&rt, &Asked::Readied(Err(Failure::Mapped))),
+        ],
+    )
 }
 
 /// Whether a factory of services that answer, whose errors are changed, shows what it has to.
@@ -70,10 +84,14 @@ pub(crate) fn renames(
 }
 
 #[test]
-fn map_err_leaves_the_responses_of_made_services(rt: HostRuntime) -> Result<(), AllocError> {
-    assert!(rt; renames(&rt, 0, &once(1), &Asked::Served(7, Ok(7)))?);
-    assert!(rt; renames(&rt, 0, &once(1), &Asked::Readied(Ok(())))?);
-    Ok(())
+fn map_err_leaves_the_responses_of_made_services(rt: HostRuntime) -> Result<(), Fail> {
+    hold(
+        &rt,
+        &[
+            renames(&rt, 0, &once(1), &Asked::Served(7, Ok(7))),
+            renames(&rt, 0, &once(1), &Asked::Readied(Ok(()))),
+        ],
+    )
 }
 
 /// Whether a pair of a part that echoes and one that tags shows what it has to, and counts on.
@@ -93,14 +111,18 @@ fn tags(
 }
 
 #[test]
-fn and_then_makes_a_service_of_both_parts(rt: HostRuntime) -> Result<(), AllocError> {
+fn and_then_makes_a_service_of_both_parts(rt: HostRuntime) -> Result<(), Fail> {
     let one = Cell::new(0);
     let two = Cell::new(0);
     let answer = Asked::Served(Word::Srv1, Ok((Word::Srv1, Word::Srv2)));
-    assert!(rt; tags(&rt, (&one, &two), &answer)?);
-    assert!(rt; tags(&rt, (&one, &two), &Asked::Readied(Ok(())))?);
-    assert!(rt; one.get() == 1 && two.get() == 1);
-    Ok(())
+    hold(
+        &rt,
+        &[
+            tags(&rt, (&one, &two), &answer),
+            tags(&rt, (&one, &two), &Asked::Readied(Ok(()))),
+            Ok(one.get() == 1 && two.get() == 1),
+        ],
+    )
 }
 
 /// Whether a pair whose parts wait so often shows what it has to.
@@ -125,12 +147,16 @@ fn is_made_in(rt: &HostRuntime, waits: (u32, u32), polls: u32) -> Result<bool, A
 }
 
 #[test]
-fn a_pair_is_made_in_as_many_polls_as_its_slower_part(rt: HostRuntime) -> Result<(), AllocError> {
-    assert!(rt; is_made_in(&rt, (0, 0), 1)?);
-    assert!(rt; is_made_in(&rt, (1, 1), 2)?);
-    assert!(rt; is_made_in(&rt, (1, 2), 3)?);
-    assert!(rt; is_made_in(&rt, (2, 0), 3)?);
-    Ok(())
+fn a_pair_is_made_in_as_many_polls_as_its_slower_part(rt: HostRuntime) -> Result<(), Fail> {
+    hold(
+        &rt,
+        &[
+            is_made_in(&rt, (0, 0), 1),
+            is_made_in(&rt, (1, 1), 2),
+            is_made_in(&rt, (1, 2), 3),
+            is_made_in(&rt, (2, 0), 3),
+        ],
+    )
 }
 
 /// Whether this comes in place of a pair whose parts both make no service, the first after some polls.
@@ -153,11 +179,15 @@ fn late_pair_is_denied(rt: &HostRuntime, denial: Denial) -> Result<bool, AllocEr
 }
 
 #[test]
-fn the_first_making_errs_before_the_second(rt: HostRuntime) -> Result<(), AllocError> {
-    assert!(rt; pair_is_denied(&rt, 0, Denial::First)?);
-    assert!(rt; pair_is_denied(&rt, 1, Denial::Second)?);
-    assert!(rt; late_pair_is_denied(&rt, Denial::Second)?);
-    Ok(())
+fn the_first_making_errs_before_the_second(rt: HostRuntime) -> Result<(), Fail> {
+    hold(
+        &rt,
+        &[
+            pair_is_denied(&rt, 0, Denial::First),
+            pair_is_denied(&rt, 1, Denial::Second),
+            late_pair_is_denied(&rt, Denial::Second),
+        ],
+    )
 }
 
 /// Whether a pair whose parts tag with the word of their configuration shows what it has to.
@@ -170,10 +200,9 @@ fn tags_each(
 }
 
 #[test]
-fn the_first_part_gets_a_clone_of_the_configuration(rt: HostRuntime) -> Result<(), AllocError> {
+fn the_first_part_gets_a_clone_of_the_configuration(rt: HostRuntime) -> Result<(), Fail> {
     let answer = Asked::Served(7, Ok(((7, Word::Srv2), Word::Srv)));
-    assert!(rt; tags_each(&rt, Word::Srv, &answer)?);
-    Ok(())
+    holds(&rt, tags_each(&rt, Word::Srv, &answer))
 }
 
 /// Whether this comes in place of a pair whose configuration has no clones.
@@ -183,9 +212,8 @@ fn pair_without_clones_is_denied(rt: &HostRuntime, denial: Denial) -> Result<boo
 }
 
 #[test]
-fn a_configuration_without_clones_is_want_of_memory(rt: HostRuntime) -> Result<(), AllocError> {
-    assert!(rt; pair_without_clones_is_denied(&rt, Denial::Memory)?);
-    Ok(())
+fn a_configuration_without_clones_is_want_of_memory(rt: HostRuntime) -> Result<(), Fail> {
+    holds(&rt, pair_without_clones_is_denied(&rt, Denial::Memory))
 }
 
 /// Whether a factory of services that answer, whose own errors are changed, shows what it has to.
@@ -204,12 +232,14 @@ fn excuses_denial(rt: &HostRuntime, failure: Failure) -> Result<bool, AllocError
 }
 
 #[test]
-fn map_init_err_changes_what_comes_in_place_of_a_service(
-    rt: HostRuntime,
-) -> Result<(), AllocError> {
-    assert!(rt; excuses_denial(&rt, Failure::Mapped)?);
-    assert!(rt; excuses(&rt, 0, &once(1), &Asked::Served(7, Ok(7)))?);
-    Ok(())
+fn map_init_err_changes_what_comes_in_place_of_a_service(rt: HostRuntime) -> Result<(), Fail> {
+    hold(
+        &rt,
+        &[
+            excuses_denial(&rt, Failure::Mapped),
+            excuses(&rt, 0, &once(1), &Asked::Served(7, Ok(7))),
+        ],
+    )
 }
 
 /// Whether a factory of services that answer, whose responses are halved, shows what it has to.
@@ -228,18 +258,26 @@ fn wrapping_waits(rt: &HostRuntime) -> Result<bool, AllocError> {
 }
 
 #[test]
-fn a_making_that_waits_can_be_dropped(rt: HostRuntime) -> Result<(), AllocError> {
-    assert!(rt; halves(&rt, 1, &once(1), &Asked::Waits)?);
-    assert!(rt; renames(&rt, 1, &once(1), &Asked::Waits)?);
-    assert!(rt; excuses(&rt, 1, &once(1), &Asked::Waits)?);
-    assert!(rt; pairs(&rt, (1, 0), &once(1), &Asked::Waits)?);
-    assert!(rt; wrapping_waits(&rt)?);
-    Ok(())
+fn a_making_that_waits_can_be_dropped(rt: HostRuntime) -> Result<(), Fail> {
+    hold(
+        &rt,
+        &[
+            halves(&rt, 1, &once(1), &Asked::Waits),
+            renames(&rt, 1, &once(1), &Asked::Waits),
+            excuses(&rt, 1, &once(1), &Asked::Waits),
+            pairs(&rt, (1, 0), &once(1), &Asked::Waits),
+            wrapping_waits(&rt),
+        ],
+    )
 }
 
 #[test]
-fn each_factory_makes_the_same_each_way(rt: HostRuntime) -> Result<(), AllocError> {
-    assert!(rt; changed_make_the_same(&rt, 1)?);
-    assert!(rt; pairs(&rt, (0, 0), &each_way(1), &Asked::Served(8, Ok(8)))?);
-    Ok(())
+fn each_factory_makes_the_same_each_way(rt: HostRuntime) -> Result<(), Fail> {
+    hold(
+        &rt,
+        &[
+            changed_make_the_same(&rt, 1),
+            pairs(&rt, (0, 0), &each_way(1), &Asked::Served(8, Ok(8))),
+        ],
+    )
 }

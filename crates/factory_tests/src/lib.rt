@@ -1,4 +1,5 @@
-//! Tests of the combinators of factories and of transforms, and of their copies, and small programs over factories.
+//! Tests of factories and of transforms: their combinators and copies, services of closures, and what is made of a
+//! closure or of a configuration; small programs over factories and over configurations.
 #![tactic(auto)]
 
 #[cfg(test)]
@@ -6,15 +7,25 @@ mod asking;
 #[cfg(test)]
 mod changing;
 #[cfg(test)]
+mod config_programs;
+#[cfg(test)]
+mod config_tests;
+#[cfg(test)]
+mod configuring;
+#[cfg(test)]
 mod copy_tests;
 #[cfg(test)]
 mod factory_programs;
 #[cfg(test)]
 mod factory_tests;
 #[cfg(test)]
+mod limits;
+#[cfg(test)]
 mod makers;
 #[cfg(test)]
 mod making;
+#[cfg(test)]
+mod making_tests;
 #[cfg(test)]
 mod naming;
 #[cfg(test)]
@@ -26,6 +37,8 @@ mod refusal_tests;
 #[cfg(test)]
 mod services;
 #[cfg(test)]
+mod shown;
+#[cfg(test)]
 mod startup;
 #[cfg(test)]
 mod transform_tests;
@@ -33,3 +46,5 @@ mod transform_tests;
 mod transforms;
 #[cfg(test)]
 mod words;
+#[cfg(test)]
+mod wrapping;

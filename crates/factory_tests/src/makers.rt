@@ -2,7 +2,7 @@
 ghost use Rattle.std.specs.Prelude.{⊤};
 ghost use Rattle.service_core.specs.Meaning.{GivesOnly};
 
-use crate::services::{Adding, Echo, Scoring, Tagging};
+use crate::services::{Adding, Awaking, Echo, Scoring, Tagging, Telling};
 use crate::words::{Denial, Fault, Mark, Word};
 use futures::Future;
 use futures::task::{Context, Poll};
@@ -231,6 +231,76 @@ impl ServiceFactory<u32> for Steps {
         } else {
             ok(Adding { step: cfg })
         }
+    }
+}
+
+/// Makes services that tell their configuration.
+#[derive(Clone, Copy, Drop)]
+pub(crate) struct Tells;
+
+impl ServiceFactory<()> for Tells {
+    type Response = u32;
+
+    type Error = Fault;
+
+    type Config = u32;
+
+    type Service = Telling<u32>;
+
+    type InitError = Denial;
+
+    type Future = Ready<Result<Telling<u32>, Denial>>;
+
+    ghost may = { λ _ _ _ _. ⊤ };
+
+    ghost may_ready = { λ _ _ _. ⊤ };
+
+    ghost may_begin = { λ _ _ _ f. GivesOnly ⟦<Ready<Result<u32, Fault>> as Future>⟧ f (λ _. ⊤) };
+
+    ghost may_init = { λ _ _ _. ⊤ };
+
+    ghost may_make = { λ _ _. ⊤ };
+
+    ghost begun_gives = { λ s c q f h. h };
+
+    fn new_service(&self, cfg: u32) -> Ready<Result<Telling<u32>, Denial>> {
+        ok(Telling { value: cfg })
+    }
+}
+
+/// Makes services that are ready at the third poll.
+#[derive(Drop)]
+pub(crate) struct Wakes;
+
+impl ServiceFactory<u32> for Wakes {
+    type Response = u32;
+
+    type Error = Fault;
+
+    type Config = ();
+
+    type Service = Awaking;
+
+    type InitError = Denial;
+
+    type Future = Ready<Result<Awaking, Denial>>;
+
+    ghost may = { λ _ _ _ _. ⊤ };
+
+    ghost may_ready = { λ _ _ _. ⊤ };
+
+    ghost may_begin = { λ _ _ _ f. GivesOnly ⟦<Ready<Result<u32, Fault>> as Future>⟧ f (λ _. ⊤) };
+
+    ghost may_init = { λ _ _ _. ⊤ };
+
+    ghost may_make = { λ _ _. ⊤ };
+
+    ghost begun_gives = { λ s c q f h. h };
+
+    fn new_service(&self, _cfg: ()) -> Ready<Result<Awaking, Denial>> {
+        ok(Awaking {
+            waits: Cell::new(2),
+        })
     }
 }
 

@@ -1,5 +1,5 @@
 //! What a making is asked, whatever it makes.
-ghost use Rattle.std.specs.Prelude.{Ok as Made};
+ghost use Rattle.std.specs.Prelude.{true, ◌≡◌, Ok as Made};
 ghost use Rattle.futures.specs.declared.task.Poll.TheVariants.{Ready as PollReady};
 
 use futures::Future;
@@ -52,7 +52,7 @@ pub(crate) fn task(rt: &HostRuntime) -> Result<MockTask, AllocError> {
 }
 
 /// That something else came: an error where it is want of memory.
-fn is_other<E: NoMemory + PartialEq>(error: E) -> Result<bool, AllocError> {
+pub(crate) fn is_other<E: NoMemory + PartialEq>(error: E) -> Result<bool, AllocError> {
     if error == E::no_memory() {
         Err(AllocError)
     } else {
@@ -89,7 +89,7 @@ where
 }
 
 /// Whether a service answers so at once.
-fn answers<S, Req>(
+pub(crate) fn answers<S, Req>(
     task: &MockTask,
     service: S,
     req: Req,
@@ -104,7 +104,7 @@ where
 }
 
 /// Whether the readiness of a service is so at once.
-fn is_ready<S, Req>(
+pub(crate) fn is_ready<S, Req>(
     task: &MockTask,
     service: S,
     wanted: &Result<(), S::Error>,
@@ -121,9 +121,9 @@ where
 }
 
 /// Whether a service that is made at once answers so at once.
-fn serves<M, S, Req, I>(
+pub(crate) fn serves<M, S, Req, I>(
     task: &MockTask,
-    mut making: M,
+    making: &mut M,
     req: Req,
     wanted: &Result<S::Response, S::Error>,
 ) -> Result<bool, AllocError>
@@ -132,10 +132,10 @@ where
     S: Service<Req, Response: PartialEq + Drop, Error: NoMemory + PartialEq> + Drop,
     I: NoMemory + PartialEq,
     M: Future<Output = Result<S, I>>,
-    requires pollable { M.can_poll making }
-    requires callable { (s : S) → M.gives making (Made s) → S.can_call s }
+    requires pollable { M.can_poll making.old }
+    requires callable { (s : S) → M.gives making.old (Made s) → S.can_call s }
 {
-    match task.poll(&mut making) {
+    match task.poll(making) {
         Poll::Ready(Ok(service)) => answers(task, service, req, wanted),
         Poll::Ready(Err(error)) => is_other(error),
         Poll::Pending => Ok(false),
@@ -145,17 +145,17 @@ where
 /// Whether the readiness of a service that is made at once is so.
 fn readies<M, S, Req, I>(
     task: &MockTask,
-    mut making: M,
+    making: &mut M,
     wanted: &Result<(), S::Error>,
 ) -> Result<bool, AllocError>
 where
     S: Service<Req, Error: NoMemory + PartialEq> + Drop,
     I: NoMemory + PartialEq,
     M: Future<Output = Result<S, I>>,
-    requires pollable { M.can_poll making }
-    requires callable { (s : S) → M.gives making (Made s) → S.can_call s }
+    requires pollable { M.can_poll making.old }
+    requires callable { (s : S) → M.gives making.old (Made s) → S.can_call s }
 {
-    match task.poll(&mut making) {
+    match task.poll(making) {
         Poll::Ready(Ok(service)) => is_ready::<S, Req>(task, service, wanted),
         Poll::Ready(Err(error)) => is_other(error),
         Poll::Pending => Ok(false),
@@ -163,14 +163,14 @@ where
 }
 
 /// Whether this comes at once in place of a service.
-fn denies<M, S, I>(task: &MockTask, mut making: M, wanted: &I) -> Result<bool, AllocError>
+fn denies<M, S, I>(task: &MockTask, making: &mut M, wanted: &I) -> Result<bool, AllocError>
 where
     S: Drop,
     I: NoMemory + PartialEq,
     M: Future<Output = Result<S, I>>,
-    requires { M.can_poll making }
+    requires { M.can_poll making.old }
 {
-    match task.poll(&mut making) {
+    match task.poll(making) {
         Poll::Ready(Err(error)) => is_error(error, wanted),
         _ => Ok(false),
     }
@@ -179,7 +179,7 @@ where
 /// Whether this comes at once in place of a service, with a task made for it.
 pub(crate) fn is_denied<M, S, I>(
     rt: &HostRuntime,
-    making: M,
+    mut making: M,
     wanted: &I,
 ) -> Result<bool, AllocError>
 where
@@ -189,38 +189,39 @@ where
     requires { M.can_poll making }
 {
     match task(rt) {
-        Ok(task) => denies(&task, making, wanted),
+        Ok(task) => denies(&task, &mut making, wanted),
         Err(_) => Err(AllocError),
     }
 }
 
-/// How many polls it takes until a making answers, where that is three at most.
-fn polls_of<M: Future<Output: Drop>>(task: &MockTask, mut making: M) -> u32
-    requires { M.can_poll making }
+/// Whether a making is pending at its next poll. It can be polled again then.
+pub(crate) fn waits<M: Future<Output: Drop>>(task: &MockTask, making: &mut M) -> bool
+    requires { M.can_poll making.old }
+    ensures { result ≡ true → M.can_poll making.new }
 {
-    let Poll::Pending = task.poll(&mut making) else {
-        return 1;
-    };
-    let Poll::Pending = task.poll(&mut making) else {
-        return 2;
-    };
-    let Poll::Pending = task.poll(&mut making) else {
-        return 3;
-    };
-    4
+    task.poll(making).is_pending()
 }
 
-/// Whether a making is pending at its first poll. It is dropped then.
-fn waits<M: Future<Output: Drop>>(task: &MockTask, mut making: M) -> bool
-    requires { M.can_poll making }
+/// How many polls it takes until a making answers, where that is three at most.
+fn polls_of<M: Future<Output: Drop>>(task: &MockTask, making: &mut M) -> u32
+    requires { M.can_poll making.old }
 {
-    task.poll(&mut making).is_pending()
+    if !waits(task, making) {
+        return 1;
+    }
+    if !waits(task, making) {
+        return 2;
+    }
+    if !waits(task, making) {
+        return 3;
+    }
+    4
 }
 
 /// Whether a making shows what it has to.
 pub(crate) fn making_shows<M, S, Req, I>(
     task: &MockTask,
-    making: M,
+    making: &mut M,
     asked: &Asked<Req, S::Response, S::Error, I>,
 ) -> Result<bool, AllocError>
 where
@@ -228,8 +229,8 @@ where
     S: Service<Req, Response: PartialEq + Drop, Error: NoMemory + PartialEq> + Drop,
     I: NoMemory + PartialEq,
     M: Future<Output = Result<S, I>>,
-    requires pollable { M.can_poll making }
-    requires callable { (s : S) → M.gives making (Made s) → S.can_call s }
+    requires pollable { M.can_poll making.old }
+    requires callable { (s : S) → M.gives making.old (Made s) → S.can_call s }
 {
     match asked {
         Asked::Served(req, answer) => serves(task, making, *req, answer),

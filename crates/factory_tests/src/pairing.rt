@@ -1,6 +1,6 @@
 //! Pairs of factories, whatever the parts.
 
-use crate::asking::{Order, both_show};
+use crate::asking::{Order, built_and_copied};
 use crate::making::Asked;
 use crate::words::{Again, Denial, Fault};
 use service_combine::{PipelineFactory, ServiceFactoryExt, pipeline_factory};
@@ -31,9 +31,8 @@ where
     requires first { (made : _) → A.can_make made }
     requires second { (made : _) → B.can_make made }
 {
-    let both = first.and_then(rt.alloc(), second)?;
-    let copy: Result<_, _> = both.clone();
-    both_show(rt, both, copy, order, asked)
+    let both = first.and_then(rt.alloc(), second);
+    built_and_copied(rt, both, order, asked)
 }
 
 /// Whether a pipeline of two parts shows what it has to.
@@ -61,9 +60,8 @@ where
     requires second { (made : _) → B.can_make made }
 {
     let chain: PipelineFactory<A, Req> = pipeline_factory(first);
-    let both = chain.and_then(rt.alloc(), second)?;
-    let copy: Result<_, _> = both.clone();
-    both_show(rt, both, copy, order, asked)
+    let both = chain.and_then(rt.alloc(), second);
+    built_and_copied(rt, both, order, asked)
 }
 
 /// Whether a pipeline whose second part gets each result shows what it has to.
@@ -91,7 +89,6 @@ where
     requires second { (made : _) → B.can_make made }
 {
     let chain: PipelineFactory<A, Req> = pipeline_factory(first);
-    let both = chain.then(rt.alloc(), second)?;
-    let copy: Result<_, _> = both.clone();
-    both_show(rt, both, copy, order, asked)
+    let both = chain.then(rt.alloc(), second);
+    built_and_copied(rt, both, order, asked)
 }

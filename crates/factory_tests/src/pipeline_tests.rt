@@ -6,9 +6,11 @@ use crate::makers::{Tags, copies, copies_late, denies, scored};
 use crate::making::Asked;
 use crate::pairing::{chained, handed};
 use crate::services::{Echo, Faulty, Obeying, Summing, Tagging};
+use crate::shown::{hold, holds};
 use crate::words::{Denial, Failure, Fault, Mark, Single, Word};
 use std::alloc::AllocError;
 use std::cell::Cell;
+use std::test::Fail;
 
 /// Whether a pipeline of services that answer, which is mapped, shows what it has to.
 fn maps(
@@ -19,10 +21,14 @@ fn maps(
 }
 
 #[test]
-fn a_pipeline_of_factories_maps_responses(rt: HostRuntime) -> Result<(), AllocError> {
-    assert!(rt; maps(&rt, &Asked::Served((), Ok("ok")))?);
-    assert!(rt; maps(&rt, &Asked::Readied(Ok(())))?);
-    Ok(())
+fn a_pipeline_of_factories_maps_responses(rt: HostRuntime) -> Result<(), Fail> {
+    hold(
+        &rt,
+        &[
+            maps(&rt, &Asked::Served((), Ok("ok"))),
+            maps(&rt, &Asked::Readied(Ok(()))),
+        ],
+    )
 }
 
 /// Whether a pipeline of services that err, whose errors are changed, shows what it has to.
@@ -32,10 +38,14 @@ fn renames(rt: &HostRuntime, asked: &Asked<(), (), Failure, Denial>) -> Result<b
 }
 
 #[test]
-fn a_pipeline_of_factories_maps_errors(rt: HostRuntime) -> Result<(), AllocError> {
-    assert!(rt; renames(&rt, &Asked::Served((), Err(Failure::Mapped)))?);
-    assert!(rt; renames(&rt, &Asked::Readied(Err(Failure::Mapped)))?);
-    Ok(())
+fn a_pipeline_of_factories_maps_errors(rt: HostRuntime) -> Result<(), Fail> {
+    hold(
+        &rt,
+        &[
+            renames(&rt, &Asked::Served((), Err(Failure::Mapped))),
+            renames(&rt, &Asked::Readied(Err(Failure::Mapped))),
+        ],
+    )
 }
 
 /// Whether this comes in place of a service where a pipeline makes none, and its own errors are changed.
@@ -46,9 +56,8 @@ fn excuses_denial(rt: &HostRuntime, failure: Failure) -> Result<bool, AllocError
 #[test]
 fn a_pipeline_of_factories_maps_what_comes_in_place_of_a_service(
     rt: HostRuntime,
-) -> Result<(), AllocError> {
-    assert!(rt; excuses_denial(&rt, Failure::Mapped)?);
-    Ok(())
+) -> Result<(), Fail> {
+    holds(&rt, excuses_denial(&rt, Failure::Mapped))
 }
 
 /// Whether a pipeline of a part that echoes and one that tags shows what it has to, and counts on.
@@ -68,14 +77,18 @@ fn tags(
 }
 
 #[test]
-fn a_pipeline_of_factories_hands_each_response_on(rt: HostRuntime) -> Result<(), AllocError> {
+fn a_pipeline_of_factories_hands_each_response_on(rt: HostRuntime) -> Result<(), Fail> {
     let one = Cell::new(0);
     let two = Cell::new(0);
     let answer = Asked::Served(Word::Srv1, Ok((Word::Srv1, Word::Srv2)));
-    assert!(rt; tags(&rt, (&one, &two), &answer)?);
-    assert!(rt; tags(&rt, (&one, &two), &Asked::Readied(Ok(())))?);
-    assert!(rt; one.get() == 1 && two.get() == 1);
-    Ok(())
+    hold(
+        &rt,
+        &[
+            tags(&rt, (&one, &two), &answer),
+            tags(&rt, (&one, &two), &Asked::Readied(Ok(()))),
+            Ok(one.get() == 1 && two.get() == 1),
+        ],
+    )
 }
 
 /// Whether a pipeline of a part that obeys and one that sums shows what it has to, and counts on.
@@ -94,16 +107,20 @@ fn sums(
 }
 
 #[test]
-fn a_pipeline_of_factories_hands_each_result_on(rt: HostRuntime) -> Result<(), AllocError> {
+fn a_pipeline_of_factories_hands_each_result_on(rt: HostRuntime) -> Result<(), Fail> {
     let one = Cell::new(0);
     let two = Cell::new(0);
     let fine = Asked::Served(Ok(Word::Srv1), Ok((Word::Srv1, Word::Fine)));
-    assert!(rt; sums(&rt, (&one, &two), &fine)?);
     let failed = Asked::Served(Err(Fault::Bad), Ok((Word::Srv2, Word::Failed)));
-    assert!(rt; sums(&rt, (&one, &two), &failed)?);
-    assert!(rt; sums(&rt, (&one, &two), &Asked::Readied(Err(Fault::Bad)))?);
-    assert!(rt; one.get() == 1 && two.get() == 1);
-    Ok(())
+    hold(
+        &rt,
+        &[
+            sums(&rt, (&one, &two), &fine),
+            sums(&rt, (&one, &two), &failed),
+            sums(&rt, (&one, &two), &Asked::Readied(Err(Fault::Bad))),
+            Ok(one.get() == 1 && two.get() == 1),
+        ],
+    )
 }
 
 /// Whether a pipeline of a part that echoes and one that obeys, which wait so often, shows what it has to.
@@ -123,10 +140,14 @@ fn obeys(
 }
 
 #[test]
-fn then_makes_both_parts_at_once(rt: HostRuntime) -> Result<(), AllocError> {
-    assert!(rt; obeys(&rt, 1, &once(1), &Asked::Waits)?);
-    assert!(rt; obeys(&rt, 1, &once(1), &Asked::Polls(2))?);
-    Ok(())
+fn then_makes_both_parts_at_once(rt: HostRuntime) -> Result<(), Fail> {
+    hold(
+        &rt,
+        &[
+            obeys(&rt, 1, &once(1), &Asked::Waits),
+            obeys(&rt, 1, &once(1), &Asked::Polls(2)),
+        ],
+    )
 }
 
 /// Whether this comes in place of a pipeline whose parts both make no service.
@@ -154,10 +175,14 @@ fn late_pair_is_denied(rt: &HostRuntime, denial: Denial) -> Result<bool, AllocEr
 }
 
 #[test]
-fn then_answers_the_first_error_of_its_makings(rt: HostRuntime) -> Result<(), AllocError> {
-    assert!(rt; pair_is_denied(&rt, Denial::First)?);
-    assert!(rt; late_pair_is_denied(&rt, Denial::Second)?);
-    Ok(())
+fn then_answers_the_first_error_of_its_makings(rt: HostRuntime) -> Result<(), Fail> {
+    hold(
+        &rt,
+        &[
+            pair_is_denied(&rt, Denial::First),
+            late_pair_is_denied(&rt, Denial::Second),
+        ],
+    )
 }
 
 /// What a pipeline answers whose parts tag a number and its result.
@@ -173,12 +198,9 @@ fn tags_each(
 }
 
 #[test]
-fn then_hands_a_clone_of_the_configuration_to_its_first_part(
-    rt: HostRuntime,
-) -> Result<(), AllocError> {
+fn then_hands_a_clone_of_the_configuration_to_its_first_part(rt: HostRuntime) -> Result<(), Fail> {
     let answer = Asked::Served(7, Ok((Ok((7, Word::Srv2)), Word::Srv)));
-    assert!(rt; tags_each(&rt, Word::Srv, &answer)?);
-    Ok(())
+    holds(&rt, tags_each(&rt, Word::Srv, &answer))
 }
 
 /// Whether this comes in place of a pipeline whose configuration has no clones.
@@ -190,15 +212,11 @@ fn pair_without_clones_is_denied(rt: &HostRuntime, denial: Denial) -> Result<boo
 #[test]
 fn then_takes_a_configuration_without_clones_for_want_of_memory(
     rt: HostRuntime,
-) -> Result<(), AllocError> {
-    assert!(rt; pair_without_clones_is_denied(&rt, Denial::Memory)?);
-    Ok(())
+) -> Result<(), Fail> {
+    holds(&rt, pair_without_clones_is_denied(&rt, Denial::Memory))
 }
 
 #[test]
-fn a_pipeline_of_factories_makes_the_same_where_it_is_shared(
-    rt: HostRuntime,
-) -> Result<(), AllocError> {
-    assert!(rt; obeys(&rt, 0, &each_way(1), &Asked::Served(8, Ok(8)))?);
-    Ok(())
+fn a_pipeline_of_factories_makes_the_same_where_it_is_shared(rt: HostRuntime) -> Result<(), Fail> {
+    holds(&rt, obeys(&rt, 0, &each_way(1), &Asked::Served(8, Ok(8))))
 }

@@ -246,3 +246,68 @@ impl Service<u32> for Adding {
         ok(req.wrapping_add(self.step))
     }
 }
+
+/// Answers each request with one value.
+#[derive(Drop)]
+pub(crate) struct Telling<T> {
+    pub(crate) value: T,
+}
+
+impl<T: Copy + Drop> Service<()> for Telling<T> {
+    type Response = T;
+
+    type Error = Fault;
+
+    type Future = Ready<Result<T, Fault>>;
+
+    ghost may = { λ _ _ _. ⊤ };
+
+    ghost may_ready = { λ _ _. ⊤ };
+
+    ghost may_begin = { λ _ _ f. GivesOnly ⟦<Ready<Result<T, Fault>> as Future>⟧ f (λ _. ⊤) };
+
+    ghost begun_gives = { λ s q f h. h };
+
+    fn poll_ready(&self, _cx: &mut Context<'_>) -> Poll<Result<(), Fault>> {
+        Poll::Ready(Ok(()))
+    }
+
+    fn call(&self, _req: ()) -> Ready<Result<T, Fault>> {
+        ok(self.value)
+    }
+}
+
+/// Answers each number with itself, but is pending at the first polls of its readiness.
+#[derive(Drop)]
+pub(crate) struct Awaking {
+    pub(crate) waits: Cell<u32>,
+}
+
+impl Service<u32> for Awaking {
+    type Response = u32;
+
+    type Error = Fault;
+
+    type Future = Ready<Result<u32, Fault>>;
+
+    ghost may = { λ _ _ _. ⊤ };
+
+    ghost may_ready = { λ _ _. ⊤ };
+
+    ghost may_begin = { λ _ _ f. GivesOnly ⟦<Ready<Result<u32, Fault>> as Future>⟧ f (λ _. ⊤) };
+
+    ghost begun_gives = { λ s q f h. h };
+
+    fn poll_ready(&self, cx: &mut Context<'_>) -> Poll<Result<(), Fault>> {
+        let waits = self.waits.get();
+        if waits > 0 {
+            self.waits.set(waits - 1);
+            return cx.yield_now();
+        }
+        Poll::Ready(Ok(()))
+    }
+
+    fn call(&self, req: u32) -> Ready<Result<u32, Fault>> {
+        ok(req)
+    }
+}

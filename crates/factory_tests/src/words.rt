@@ -53,6 +53,7 @@ impl NoMemory for Failure {
 pub(crate) enum Denial {
     First,
     Second,
+    Unready,
     Memory,
 }
 
@@ -62,6 +63,22 @@ impl NoMemory for Denial {
     ghost refusal = { Memory };
 
     fn no_memory() -> Denial {
+        Denial::Memory
+    }
+}
+
+impl From<Fault> for Denial {
+    ghost from_gives = { λ _ _. ⊤ };
+
+    fn from(_: Fault) -> Denial {
+        Denial::Unready
+    }
+}
+
+impl From<AllocError> for Denial {
+    ghost from_gives = { λ _ _. ⊤ };
+
+    fn from(_: AllocError) -> Denial {
         Denial::Memory
     }
 }

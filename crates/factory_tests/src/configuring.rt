@@ -1,11 +1,10 @@
 //! Factories of closures and of configurations, whatever the parts.
-ghost use Rattle.std.specs.Prelude.{◌≡◌};
 ghost use Rattle.service_combine.specs.Applying.{Answers, TakesLent};
 ghost use Rattle.service_combine.specs.Configuring.{GivesCallable};
 ghost use Rattle.service_combine.specs.Staging.{MakesFrom};
 ghost use denote.Ref.{Bor};
 
-use crate::asking::{Order, both_show};
+use crate::asking::{Order, built_and_copied};
 use crate::making::Asked;
 use crate::naming::half;
 use crate::words::{Again, Denial, Fault};
@@ -30,12 +29,14 @@ where
     S: Service<(), Response: PartialEq + Drop, Error = Fault> + Drop,
     F: Fn(C) -> Fut + Drop,
     Fut: Future<Output = Result<S, Denial>>,
-    requires f { F.IsAlwaysCallable f }
-    requires gives { (c : C) → GivesCallable Fut.Future S.can_call (F.post f c) }
+    requires f { (g : F) → F.IsAlwaysCallable g }
+    requires gives { (g : F) (c : C) → GivesCallable Fut.Future S.can_call (F.post g c) }
 {
-    let factory: FnServiceConfig<F, Fut, C, S, (), Denial> = fn_factory_with_config(rt.alloc(), f)?;
-    let copy: Result<_, _> = factory.clone();
-    both_show(rt, factory, copy, order, asked)
+    let factory: Result<FnServiceConfig<F, Fut, C, S, (), Denial>, _> = fn_factory_with_config(
+        rt.alloc(),
+        f,
+    );
+    built_and_copied(rt, factory, order, asked)
 }
 
 /// Whether a factory of a closure that takes nothing shows what it has to.
@@ -49,12 +50,14 @@ where
     S: Service<(), Response: PartialEq + Drop, Error = Fault> + Drop,
     F: Fn() -> Fut + Drop,
     Fut: Future<Output = Result<S, Denial>>,
-    requires f { F.IsAlwaysCallable f }
-    requires gives { GivesCallable Fut.Future S.can_call (F.post f) }
+    requires f { (g : F) → F.IsAlwaysCallable g }
+    requires gives { (g : F) → GivesCallable Fut.Future S.can_call (F.post g) }
 {
-    let factory: FnServiceNoConfig<F, u32, S, (), Fut, Denial> = fn_factory(rt.alloc(), f)?;
-    let copy: Result<_, _> = factory.clone();
-    both_show(rt, factory, copy, order, asked)
+    let factory: Result<FnServiceNoConfig<F, u32, S, (), Fut, Denial>, _> = fn_factory(
+        rt.alloc(),
+        f,
+    );
+    built_and_copied(rt, factory, order, asked)
 }
 
 /// Whether a factory whose services are lent to a closure shows what it has to.
@@ -77,13 +80,12 @@ where
     requires factory { (made : _) → A.can_make made }
     requires f { (g : F) (s : A.Service) → A.Service.can_call s → TakesLent Fut.Future (F.pre g) (F.post g) s }
 {
-    let applied: ApplyFactory<A, F, Req, In, Res, Fault> = apply_fn_factory(
+    let applied: Result<ApplyFactory<A, F, Req, In, Res, Fault>, _> = apply_fn_factory(
         rt.alloc(),
         factory,
         f,
-    )?;
-    let copy = applied.clone()?;
-    both_show(rt, applied, Ok(copy), order, asked)
+    );
+    built_and_copied(rt, applied, order, asked)
 }
 
 /// Whether a factory of a closure to which a service is lent shows what it has to.
@@ -100,12 +102,15 @@ where
     S: Service<u32, Response = u32, Error = Fault> + Drop,
     F: Fn(C, &T) -> Fut + Drop,
     Fut: Future<Output = Result<S, Denial>>,
-    requires f { (c : C) (lent : Bor T) → lent.now ≡ service → F.pre f c lent }
-    requires gives { (c : C) → GivesCallable Fut.Future S.can_call (Answers (F.post f) service c) }
+    requires f { (g : F) (c : C) (lent : Bor T) → F.pre g c lent }
+    requires gives { (g : F) (s : T) (c : C) → GivesCallable Fut.Future S.can_call (Answers (F.post g) s c) }
 {
-    let lent: ApplyConfigService<T, u32, F, C, Fut, S, Denial> = apply_cfg(rt.alloc(), service, f)?;
-    let copy: Result<_, _> = lent.clone();
-    both_show(rt, lent, copy, order, asked)
+    let lent: Result<ApplyConfigService<T, u32, F, C, Fut, S, Denial>, _> = apply_cfg(
+        rt.alloc(),
+        service,
+        f,
+    );
+    built_and_copied(rt, lent, order, asked)
 }
 
 /// Whether a factory of a closure to which a ready service is lent shows what it has to.
@@ -124,13 +129,12 @@ where
     requires factory { (made : _) → A.can_make made }
     requires f { (g : F) (c : _) (s : A.Service) → A.Service.can_call s → MakesFrom Fut.Future (F.pre g) (F.post g) S.can_call c s }
 {
-    let awaited: ApplyConfigServiceFactory<A, u32, F, u32, Fut, S> = apply_cfg_factory(
+    let awaited: Result<ApplyConfigServiceFactory<A, u32, F, u32, Fut, S>, _> = apply_cfg_factory(
         rt.alloc(),
         factory,
         f,
-    )?;
-    let copy = awaited.clone()?;
-    both_show(rt, awaited, Ok(copy), order, asked)
+    );
+    built_and_copied(rt, awaited, order, asked)
 }
 
 /// Whether a factory whose configuration is halved shows what it has to.
@@ -153,9 +157,8 @@ where
         + Drop,
     requires factory { (made : _) → A.can_make made }
 {
-    let converted: MapConfig<A, (), _, u32> = map_config(rt.alloc(), factory, half)?;
-    let copy: Result<_, _> = converted.clone();
-    both_show(rt, converted, copy, order, asked)
+    let converted: Result<MapConfig<A, (), _, u32>, _> = map_config(rt.alloc(), factory, half);
+    built_and_copied(rt, converted, order, asked)
 }
 
 /// Whether a factory for every configuration shows what it has to.
@@ -179,6 +182,5 @@ where
     requires factory { (made : _) → A.can_make made }
 {
     let freed: UnitConfig<A, u32, u32> = unit_config(factory);
-    let copy: Result<_, _> = freed.clone();
-    both_show(rt, freed, copy, order, asked)
+    built_and_copied(rt, Ok(freed), order, asked)
 }

@@ -1,9 +1,9 @@
-//! A transform of the tests, a factory that makes no service, and what transforms are asked.
-ghost use Rattle.std.specs.Prelude.{⊤};
+//! A transform of the tests, a factory that makes no service, and what a factory that wraps is asked.
+ghost use Rattle.std.specs.Prelude.{⊤, IfOk};
 ghost use Rattle.service_core.specs.Meaning.{GivesOnly};
 
 use crate::makers::Late;
-use crate::making::{Asked, answers, is_other, making_shows, task};
+use crate::making::{serves, task, waits};
 use crate::services::Echo;
 use crate::words::{Denial, Fault};
 use futures::Future;
@@ -118,33 +118,8 @@ impl ServiceFactory<u32> for Barren {
     }
 }
 
-/// Whether a transform's service answers 1 so.
-pub(crate) fn wraps<S, T>(
-    rt: &HostRuntime,
-    transform: T,
-    service: S,
-    wanted: u32,
-) -> Result<bool, AllocError>
-where
-    S: Service<u32> + Drop,
-    T: Transform<
-        S,
-        u32,
-        Response = u32,
-        Error: NoMemory + PartialEq,
-        Transform: Drop,
-        InitError: NoMemory + PartialEq,
-    >
-        + Drop,
-    requires { T.can_make transform service }
-{
-    let task = task(rt)?;
-    let asked = Asked::Served(1, Ok(wanted));
-    making_shows(&task, transform.new_transform(service), &asked)
-}
-
 /// Whether a factory's making is pending twice, and its service answers 1 so then.
-pub(crate) fn makes_third<F>(task: &MockTask, factory: &F, wanted: u32) -> Result<bool, AllocError>
+fn makes_third<F>(task: &MockTask, factory: &F, wanted: u32) -> Result<bool, AllocError>
 where
     F: ServiceFactory<
         u32,
@@ -158,15 +133,64 @@ where
     requires services { (service : F.Service) → F.Service.can_call service }
 {
     let mut making = factory.new_service(());
-    let Poll::Pending = task.poll(&mut making) else {
-        return Ok(false);
-    };
-    let Poll::Pending = task.poll(&mut making) else {
-        return Ok(false);
-    };
-    match task.poll(&mut making) {
-        Poll::Ready(Ok(service)) => answers(task, service, 1, &Ok(wanted)),
-        Poll::Ready(Err(error)) => is_other(error),
-        Poll::Pending => Ok(false),
+    if waits(task, &mut making) && waits(task, &mut making) {
+        serves(task, &mut making, 1, &Ok(wanted))
+    } else {
+        Ok(false)
+    }
+}
+
+/// Whether a factory makes such a service once it is built, with a task made for it.
+fn built_makes_third<F>(
+    rt: &HostRuntime,
+    factory: Result<F, AllocError>,
+    wanted: u32,
+) -> Result<bool, AllocError>
+where
+    F: ServiceFactory<
+        u32,
+        Config = (),
+        Response = u32,
+        Error: NoMemory + PartialEq,
+        Service: Drop,
+        InitError: NoMemory + PartialEq,
+    >
+        + Drop,
+    requires factory { IfOk factory F.can_make }
+    requires services { (service : F.Service) → F.Service.can_call service }
+{
+    let task = task(rt)?;
+    match factory {
+        Ok(factory) => makes_third(&task, &factory, wanted),
+        Err(_) => Err(AllocError),
+    }
+}
+
+/// Whether a copy of a factory makes such a service once it is built.
+pub(crate) fn copy_makes_third<F>(
+    rt: &HostRuntime,
+    factory: Result<F, AllocError>,
+    wanted: u32,
+) -> Result<bool, AllocError>
+where
+    F: ServiceFactory<
+        u32,
+        Config = (),
+        Response = u32,
+        Error: NoMemory + PartialEq,
+        Service: Drop,
+        InitError: NoMemory + PartialEq,
+    >
+        + Clone
+        + Drop,
+    requires factory { (made : _) → F.can_make made }
+    requires services { (service : F.Service) → F.Service.can_call service }
+{
+    match factory {
+        Ok(factory) => {
+            let copy: Result<_, _> = factory.clone();
+            built_makes_third(rt, copy, wanted)
+        }
+        Err(_) => Err(AllocError),
     }
 }

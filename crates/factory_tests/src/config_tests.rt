@@ -6,8 +6,10 @@ use crate::makers::{Tells, Wakes, copies, copies_late, denies};
 use crate::making::Asked;
 use crate::naming::{added, noted, quartered, srv, told};
 use crate::services::{Awaking, Echo, Faulty};
+use crate::shown::{hold, holds};
 use crate::words::{Denial, Fault, Word};
 use std::alloc::AllocError;
+use std::test::Fail;
 
 /// Whether a factory of a closure whose services tell a word and the configuration shows what it has to.
 pub(crate) fn tells(
@@ -19,11 +21,15 @@ pub(crate) fn tells(
 }
 
 #[test]
-fn a_factory_of_a_closure_hands_it_the_configuration(rt: HostRuntime) -> Result<(), AllocError> {
-    assert!(rt; tells(&rt, &once(1), &Asked::Served((), Ok((Word::Srv, 1))))?);
-    assert!(rt; tells(&rt, &once(2), &Asked::Served((), Ok((Word::Srv, 2))))?);
-    assert!(rt; tells(&rt, &once(1), &Asked::Readied(Ok(())))?);
-    Ok(())
+fn a_factory_of_a_closure_hands_it_the_configuration(rt: HostRuntime) -> Result<(), Fail> {
+    hold(
+        &rt,
+        &[
+            tells(&rt, &once(1), &Asked::Served((), Ok((Word::Srv, 1)))),
+            tells(&rt, &once(2), &Asked::Served((), Ok((Word::Srv, 2)))),
+            tells(&rt, &once(1), &Asked::Readied(Ok(()))),
+        ],
+    )
 }
 
 /// Whether a factory of a closure that takes nothing, whose services tell one text, shows what it has to.
@@ -36,11 +42,15 @@ pub(crate) fn says(
 }
 
 #[test]
-fn a_factory_without_a_configuration_takes_any(rt: HostRuntime) -> Result<(), AllocError> {
-    assert!(rt; says(&rt, &once(1), &Asked::Served((), Ok("srv")))?);
-    assert!(rt; says(&rt, &once(2), &Asked::Served((), Ok("srv")))?);
-    assert!(rt; says(&rt, &once(1), &Asked::Readied(Ok(())))?);
-    Ok(())
+fn a_factory_without_a_configuration_takes_any(rt: HostRuntime) -> Result<(), Fail> {
+    hold(
+        &rt,
+        &[
+            says(&rt, &once(1), &Asked::Served((), Ok("srv"))),
+            says(&rt, &once(2), &Asked::Served((), Ok("srv"))),
+            says(&rt, &once(1), &Asked::Readied(Ok(()))),
+        ],
+    )
 }
 
 /// Whether a factory of services that are lent to a closure, which asks for a word beside nothing, shows what it has to.
@@ -54,10 +64,14 @@ fn notes(
 #[test]
 fn apply_fn_factory_hands_its_closure_the_request_and_a_made_service(
     rt: HostRuntime,
-) -> Result<(), AllocError> {
-    assert!(rt; notes(&rt, &Asked::Served(Word::Srv, Ok((Word::Srv, ()))))?);
-    assert!(rt; notes(&rt, &Asked::Readied(Ok(())))?);
-    Ok(())
+) -> Result<(), Fail> {
+    hold(
+        &rt,
+        &[
+            notes(&rt, &Asked::Served(Word::Srv, Ok((Word::Srv, ())))),
+            notes(&rt, &Asked::Readied(Ok(()))),
+        ],
+    )
 }
 
 /// Whether a factory of a service that is lent, which gives one that adds, shows what it has to.
@@ -70,10 +84,14 @@ pub(crate) fn adds(
 }
 
 #[test]
-fn apply_cfg_makes_a_service_of_the_configuration(rt: HostRuntime) -> Result<(), AllocError> {
-    assert!(rt; adds(&rt, &once(3), &Asked::Served(4, Ok(7)))?);
-    assert!(rt; adds(&rt, &once(5), &Asked::Served(4, Ok(9)))?);
-    Ok(())
+fn apply_cfg_makes_a_service_of_the_configuration(rt: HostRuntime) -> Result<(), Fail> {
+    hold(
+        &rt,
+        &[
+            adds(&rt, &once(3), &Asked::Served(4, Ok(7))),
+            adds(&rt, &once(5), &Asked::Served(4, Ok(9))),
+        ],
+    )
 }
 
 /// Whether a factory of ready services that are lent, which gives one that adds, shows what it has to.
@@ -87,12 +105,14 @@ pub(crate) fn adds_once_ready(
 }
 
 #[test]
-fn apply_cfg_factory_makes_a_service_of_the_configuration(
-    rt: HostRuntime,
-) -> Result<(), AllocError> {
-    assert!(rt; adds_once_ready(&rt, 0, &once(3), &Asked::Served(4, Ok(7)))?);
-    assert!(rt; adds_once_ready(&rt, 0, &once(3), &Asked::Polls(1))?);
-    Ok(())
+fn apply_cfg_factory_makes_a_service_of_the_configuration(rt: HostRuntime) -> Result<(), Fail> {
+    hold(
+        &rt,
+        &[
+            adds_once_ready(&rt, 0, &once(3), &Asked::Served(4, Ok(7))),
+            adds_once_ready(&rt, 0, &once(3), &Asked::Polls(1)),
+        ],
+    )
 }
 
 /// Whether a factory of services that are ready at the third poll, which are lent, shows what it has to.
@@ -104,12 +124,14 @@ fn adds_once_awake(
 }
 
 #[test]
-fn apply_cfg_factory_awaits_the_readiness_of_the_made_service(
-    rt: HostRuntime,
-) -> Result<(), AllocError> {
-    assert!(rt; adds_once_awake(&rt, &Asked::Waits)?);
-    assert!(rt; adds_once_awake(&rt, &Asked::Polls(3))?);
-    Ok(())
+fn apply_cfg_factory_awaits_the_readiness_of_the_made_service(rt: HostRuntime) -> Result<(), Fail> {
+    hold(
+        &rt,
+        &[
+            adds_once_awake(&rt, &Asked::Waits),
+            adds_once_awake(&rt, &Asked::Polls(3)),
+        ],
+    )
 }
 
 /// Whether this comes in place of a service where a service is lent that is never ready.
@@ -125,9 +147,8 @@ fn unready_is_denied(rt: &HostRuntime, denial: Denial) -> Result<bool, AllocErro
 }
 
 #[test]
-fn apply_cfg_factory_turns_an_error_of_readiness(rt: HostRuntime) -> Result<(), AllocError> {
-    assert!(rt; unready_is_denied(&rt, Denial::Unready)?);
-    Ok(())
+fn apply_cfg_factory_turns_an_error_of_readiness(rt: HostRuntime) -> Result<(), Fail> {
+    holds(&rt, unready_is_denied(&rt, Denial::Unready))
 }
 
 /// Whether this comes in place of a service where none is made that could be lent.
@@ -137,9 +158,8 @@ fn unmade_is_denied(rt: &HostRuntime, denial: Denial) -> Result<bool, AllocError
 }
 
 #[test]
-fn apply_cfg_factory_answers_an_error_of_the_making(rt: HostRuntime) -> Result<(), AllocError> {
-    assert!(rt; unmade_is_denied(&rt, Denial::First)?);
-    Ok(())
+fn apply_cfg_factory_answers_an_error_of_the_making(rt: HostRuntime) -> Result<(), Fail> {
+    holds(&rt, unmade_is_denied(&rt, Denial::First))
 }
 
 /// Whether a factory whose configuration is halved shows what it has to.
@@ -152,9 +172,8 @@ pub(crate) fn tells_half(
 }
 
 #[test]
-fn map_config_changes_the_configuration(rt: HostRuntime) -> Result<(), AllocError> {
-    assert!(rt; tells_half(&rt, &once(4), &Asked::Served((), Ok(2)))?);
-    Ok(())
+fn map_config_changes_the_configuration(rt: HostRuntime) -> Result<(), Fail> {
+    holds(&rt, tells_half(&rt, &once(4), &Asked::Served((), Ok(2))))
 }
 
 /// Whether a factory for every configuration, whose services echo, shows what it has to.
@@ -167,10 +186,14 @@ pub(crate) fn frees(
 }
 
 #[test]
-fn unit_config_takes_any_configuration(rt: HostRuntime) -> Result<(), AllocError> {
-    assert!(rt; frees(&rt, &once(9), &Asked::Served(7, Ok(7)))?);
-    assert!(rt; frees(&rt, &once(9), &Asked::Readied(Ok(())))?);
-    Ok(())
+fn unit_config_takes_any_configuration(rt: HostRuntime) -> Result<(), Fail> {
+    hold(
+        &rt,
+        &[
+            frees(&rt, &once(9), &Asked::Served(7, Ok(7))),
+            frees(&rt, &once(9), &Asked::Readied(Ok(()))),
+        ],
+    )
 }
 
 /// Whether a factory of services that are lent to a closure, which asks for a quarter, shows what it has to.
@@ -184,26 +207,38 @@ pub(crate) fn quarters(
 }
 
 #[test]
-fn an_applied_making_that_waits_can_be_dropped(rt: HostRuntime) -> Result<(), AllocError> {
-    assert!(rt; quarters(&rt, 1, &once(1), &Asked::Waits)?);
-    assert!(rt; adds_once_ready(&rt, 1, &once(3), &Asked::Waits)?);
-    assert!(rt; adds_once_ready(&rt, 1, &once(3), &Asked::Polls(2))?);
-    Ok(())
+fn an_applied_making_that_waits_can_be_dropped(rt: HostRuntime) -> Result<(), Fail> {
+    hold(
+        &rt,
+        &[
+            quarters(&rt, 1, &once(1), &Asked::Waits),
+            adds_once_ready(&rt, 1, &once(3), &Asked::Waits),
+            adds_once_ready(&rt, 1, &once(3), &Asked::Polls(2)),
+        ],
+    )
 }
 
 #[test]
-fn each_factory_of_a_closure_makes_the_same_each_way(rt: HostRuntime) -> Result<(), AllocError> {
-    assert!(rt; tells(&rt, &each_way(1), &Asked::Served((), Ok((Word::Srv, 1))))?);
-    assert!(rt; says(&rt, &each_way(1), &Asked::Served((), Ok("srv")))?);
-    assert!(rt; tells_half(&rt, &each_way(6), &Asked::Served((), Ok(3)))?);
-    assert!(rt; frees(&rt, &each_way(1), &Asked::Served(8, Ok(8)))?);
-    Ok(())
+fn each_factory_of_a_closure_makes_the_same_each_way(rt: HostRuntime) -> Result<(), Fail> {
+    hold(
+        &rt,
+        &[
+            tells(&rt, &each_way(1), &Asked::Served((), Ok((Word::Srv, 1)))),
+            says(&rt, &each_way(1), &Asked::Served((), Ok("srv"))),
+            tells_half(&rt, &each_way(6), &Asked::Served((), Ok(3))),
+            frees(&rt, &each_way(1), &Asked::Served(8, Ok(8))),
+        ],
+    )
 }
 
 #[test]
-fn each_applied_factory_makes_the_same_each_way(rt: HostRuntime) -> Result<(), AllocError> {
-    assert!(rt; quarters(&rt, 0, &each_way(1), &Asked::Served(8, Ok(2)))?);
-    assert!(rt; adds(&rt, &each_way(1), &Asked::Served(8, Ok(9)))?);
-    assert!(rt; adds_once_ready(&rt, 0, &each_way(1), &Asked::Served(8, Ok(9)))?);
-    Ok(())
+fn each_applied_factory_makes_the_same_each_way(rt: HostRuntime) -> Result<(), Fail> {
+    hold(
+        &rt,
+        &[
+            quarters(&rt, 0, &each_way(1), &Asked::Served(8, Ok(2))),
+            adds(&rt, &each_way(1), &Asked::Served(8, Ok(9))),
+            adds_once_ready(&rt, 0, &each_way(1), &Asked::Served(8, Ok(9))),
+        ],
+    )
 }
