@@ -561,7 +561,8 @@ def expected_of(source, name):
 def are_as_expected(folder):
     """Whether both tables have the numbers that the test expects."""
     policies = items_of(Source(folder, "policies.rt"), "POLICIES", policy_of)
-    requests = items_of(Source(folder, "requests.rt"), "REQUESTS", request_of)
+    parts = ("ORIGINS", "OTHERS", "METHODS", "HEADERS")
+    requests = [it for part in parts for it in items_of(Source(folder, "requests.rt"), part, request_of)]
     long_names = items_of(Source(folder, "requests.rt"), "LONG_NAMES", request_of)
     replies = items_of(Source(folder, "inner.rt"), "REPLIES", reply_of)
     expected = expected_of(Source(folder, "comparing.rt"), "EXPECTED")

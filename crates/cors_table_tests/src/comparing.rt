@@ -1,9 +1,10 @@
 //! The middleware's answers beside those of the plain program. `checks/cors-table.py` computes the expected numbers from
 //! the table alone.
 
-use crate::inner::{Giving, REPLIES, Reply};
+use crate::inner::{Giving, REPLIES, Reply, empty_response, once_set, set_headers};
 use crate::policies::POLICIES;
-use crate::requests::{Asked, LONG_NAMES, REQUESTS, append};
+use crate::requests::{Asked, LONG_NAMES, append, requests};
+use crate::shown::holds;
 use crate::steps::{ByRule, Step, built, plain};
 use crate::tally::{Outcome, Place, Tally};
 use cors_answer::{Cors, CorsFault, CorsInitError, CorsMiddleware};
@@ -20,8 +21,13 @@ use std::test::Fail;
 
 fn written(alloc: Global, response: &Response) -> Result<Octets, AllocError> {
     let mut out = Octets::new(alloc);
-    write_response(&mut out, &Method::GET, HttpVersion::Http11, response, false)?;
-    Ok(out)
+    match write_response(&mut out, &Method::GET, HttpVersion::Http11, response, false) {
+        Ok(()) => Ok(out),
+        Err(error) => {
+            drop(out);
+            Err(error)
+        }
+    }
 }
 
 type Middleware = CorsMiddleware<Giving, ByRule>;
@@ -29,8 +35,15 @@ type Middleware = CorsMiddleware<Giving, ByRule>;
 /// What a future of the middleware gives.
 type Answer = Result<Response, CorsFault>;
 
+fn of_text(is_error: bool, text: Result<Octets, AllocError>) -> Result<Outcome, AllocError> {
+    match text {
+        Ok(text) => Ok((is_error, text)),
+        Err(error) => Err(error),
+    }
+}
+
 fn outcome(alloc: Global, is_error: bool, response: &Response) -> Result<Outcome, AllocError> {
-    Ok((is_error, written(alloc, response)?))
+    of_text(is_error, written(alloc, response))
 }
 
 fn outcome_of_fault(alloc: Global, fault: &CorsFault) -> Result<Outcome, AllocError> {
@@ -50,14 +63,29 @@ fn outcome_of_answer(alloc: Global, answer: &Answer) -> Result<Outcome, AllocErr
 fn outcome_of(alloc: Global, polled: &Poll<Answer>) -> Result<Outcome, AllocError> {
     match polled {
         Poll::Ready(answer) => outcome_of_answer(alloc, answer),
-        Poll::Pending => Ok((true, Octets::of(alloc, b"pending")?)),
+        Poll::Pending => of_text(true, Octets::of(alloc, b"pending")),
     }
 }
 
 // What the middleware's future gives at its first poll.
 fn polled(task: &MockTask, service: &Middleware, request: Request) -> Poll<Answer> {
     let mut future = service.call(request);
-    task.poll(&mut future)
+    let polled = task.poll(&mut future);
+    drop(future);
+    polled
+}
+
+// What the middleware answers to the request.
+fn answered(
+    task: &MockTask,
+    alloc: Global,
+    service: &Middleware,
+    request: Request,
+) -> Result<Outcome, AllocError> {
+    let polled = polled(task, service, request);
+    let outcome = outcome_of(alloc, &polled);
+    drop(polled);
+    outcome
 }
 
 // What the middleware answers.
@@ -67,29 +95,58 @@ fn asked(
     service: &Middleware,
     asked: Asked,
 ) -> Result<Outcome, AllocError> {
-    let request = asked.request(alloc)?;
-    outcome_of(alloc, &polled(task, service, request))
+    match asked.request(alloc) {
+        Ok(request) => answered(task, alloc, service, request),
+        Err(error) => Err(error),
+    }
+}
+
+fn append_all(alloc: Global, list: &mut HeaderList, pairs: &[Header]) -> Result<(), AllocError> {
+    for (name, value) in pairs {
+        append(alloc, list, name.as_bytes(), value.as_bytes())?;
+    }
+    Ok(())
 }
 
 fn header_list(alloc: Global, pairs: &[Header]) -> Result<HeaderList, AllocError> {
     let mut list = HeaderList::new(alloc);
-    for (name, value) in pairs {
-        append(alloc, &mut list, name.as_bytes(), value.as_bytes())?;
+    match append_all(alloc, &mut list, pairs) {
+        Ok(()) => Ok(list),
+        Err(error) => {
+            drop(list);
+            Err(error)
+        }
     }
-    Ok(list)
+}
+
+fn set_body(response: &mut Response, body: &Octets) -> Result<(), AllocError> {
+    match body.copy() {
+        Ok(body) => Ok(response.set_body(body)),
+        Err(error) => Err(error),
+    }
+}
+
+// The response gets the headers and the body of the plain one.
+fn set_parts(alloc: Global, response: &mut Response, plain: &Plain) -> Result<(), AllocError> {
+    set_headers(response, header_list(alloc, &plain.headers))?;
+    set_body(response, &plain.body)
+}
+
+fn with_parts(
+    alloc: Global,
+    mut response: Response,
+    plain: &Plain,
+) -> Result<Response, AllocError> {
+    let set = set_parts(alloc, &mut response, plain);
+    once_set(response, set)
 }
 
 // The plain response, to be written.
 fn response_of(alloc: Global, plain: &Plain) -> Result<Response, AllocError> {
-    if plain.status < 200 || plain.status > 999 {
-        return Err(AllocError);
+    match empty_response(alloc, plain.status) {
+        Ok(response) => with_parts(alloc, response, plain),
+        Err(error) => Err(error),
     }
-    let headers = header_list(alloc, &plain.headers)?;
-    let body = plain.body.copy()?;
-    let mut response = Response::new(alloc, plain.status);
-    response.set_headers(headers);
-    response.set_body(body);
-    Ok(response)
 }
 
 fn is_handed_on(verdict: &Verdict) -> bool {
@@ -100,8 +157,14 @@ fn is_handed_on(verdict: &Verdict) -> bool {
 }
 
 fn plain_text(alloc: Global, plain: &Plain) -> Result<Octets, AllocError> {
-    let response = response_of(alloc, plain)?;
-    written(alloc, &response)
+    match response_of(alloc, plain) {
+        Ok(response) => {
+            let text = written(alloc, &response);
+            drop(response);
+            text
+        }
+        Err(error) => Err(error),
+    }
 }
 
 fn plain_answer(
@@ -110,8 +173,26 @@ fn plain_answer(
     head: &Head,
     reply: Reply,
 ) -> Result<Plain, AllocError> {
-    let inner = reply.plain(alloc)?;
-    answer(alloc, policy, head, inner)
+    match reply.plain(alloc) {
+        Ok(inner) => answer(alloc, policy, head, inner),
+        Err(error) => Err(error),
+    }
+}
+
+fn text_of_answer(
+    alloc: Global,
+    policy: &Policy,
+    head: &Head,
+    reply: Reply,
+) -> Result<Octets, AllocError> {
+    match plain_answer(alloc, policy, head, reply) {
+        Ok(answered) => {
+            let text = plain_text(alloc, &answered);
+            drop(answered);
+            text
+        }
+        Err(error) => Err(error),
+    }
 }
 
 // What the plain program answers.
@@ -122,9 +203,8 @@ fn defined(
     verdict: &Verdict,
     reply: Reply,
 ) -> Result<Outcome, AllocError> {
-    let answered = plain_answer(alloc, policy, head, reply)?;
-    let text = plain_text(alloc, &answered)?;
-    Ok((reply.is_error && is_handed_on(verdict), text))
+    let is_error = reply.is_error && is_handed_on(verdict);
+    of_text(is_error, text_of_answer(alloc, policy, head, reply))
 }
 
 /// What each policy is tried with.
@@ -138,10 +218,35 @@ struct Site<'a> {
 
 /// A service under a policy, and the plain policy.
 #[derive(Drop)]
-struct Pair {
-    service: Middleware,
-    policy: Policy,
+struct Pair<'a> {
+    service: &'a Middleware,
+    policy: &'a Policy,
     reply: Reply,
+}
+
+fn note_unless_equal(got: &Outcome, want: &Outcome, place: Place, tally: &mut Tally) {
+    if *got != *want {
+        tally.note_other(place);
+    }
+}
+
+// Compares what the middleware answers.
+fn compare_answer(
+    site: &Site,
+    pair: &Pair,
+    request: Asked,
+    place: Place,
+    want: &Outcome,
+    tally: &mut Tally,
+) -> Result<(), AllocError> {
+    match asked(site.task, site.alloc, pair.service, request) {
+        Ok(got) => {
+            note_unless_equal(&got, want, place, tally);
+            drop(got);
+            Ok(())
+        }
+        Err(error) => Err(error),
+    }
 }
 
 // Asks the middleware, and counts what the plain program answers.
@@ -153,12 +258,22 @@ fn compare_with(
     want: &Outcome,
     tally: &mut Tally,
 ) -> Result<(), AllocError> {
-    let got = asked(site.task, site.alloc, &pair.service, request)?;
-    if got != *want {
-        tally.note_other(place);
-    }
+    compare_answer(site, pair, request, place, want, tally)?;
     tally.digest_answer(want);
     Ok(())
+}
+
+// What the plain program answers by its verdict, which is counted.
+fn counted_by(
+    alloc: Global,
+    pair: &Pair,
+    head: &Head,
+    verdict: &Verdict,
+    tally: &mut Tally,
+) -> Result<Outcome, AllocError> {
+    let policy = pair.policy;
+    tally.count_pair(verdict, policy.preflight && is_preflight(head));
+    defined(alloc, policy, head, verdict, pair.reply)
 }
 
 // What the plain program answers to a request with the head, which is counted.
@@ -168,9 +283,31 @@ fn counted(
     head: &Head,
     tally: &mut Tally,
 ) -> Result<Outcome, AllocError> {
-    let verdict = verdict_on(alloc, &pair.policy, head)?;
-    tally.count_pair(&verdict, pair.policy.preflight && is_preflight(head));
-    defined(alloc, &pair.policy, head, &verdict, pair.reply)
+    match verdict_on(alloc, pair.policy, head) {
+        Ok(verdict) => {
+            let outcome = counted_by(alloc, pair, head, &verdict, tally);
+            drop(verdict);
+            outcome
+        }
+        Err(error) => Err(error),
+    }
+}
+
+// The same for a request.
+fn counted_for(
+    alloc: Global,
+    pair: &Pair,
+    request: Asked,
+    tally: &mut Tally,
+) -> Result<Outcome, AllocError> {
+    match request.head(alloc) {
+        Ok(head) => {
+            let outcome = counted(alloc, pair, &head, tally);
+            drop(head);
+            outcome
+        }
+        Err(error) => Err(error),
+    }
 }
 
 // Asks both, and counts the answer.
@@ -181,54 +318,37 @@ fn compare(
     place: Place,
     tally: &mut Tally,
 ) -> Result<(), AllocError> {
-    let head = request.head(site.alloc)?;
-    let want = counted(site.alloc, pair, &head, tally)?;
-    compare_with(site, pair, request, place, &want, tally)
+    match counted_for(site.alloc, pair, request, tally) {
+        Ok(want) => {
+            let compared = compare_with(site, pair, request, place, &want, tally);
+            drop(want);
+            compared
+        }
+        Err(error) => Err(error),
+    }
 }
 
+/// A service under a policy, or why there is none.
+type Made = Result<Middleware, CorsInitError>;
+
 // The service under the policy.
-fn made(cors: &Cors<ByRule>, inner: Giving) -> Result<Middleware, CorsInitError> {
+fn made(cors: &Cors<ByRule>, inner: Giving) -> Made {
     cors.new_transform(inner).into_inner()
 }
 
-// Nothing where the policy is refused.
-fn refused(error: &CorsInitError) -> Result<Option<Middleware>, AllocError> {
-    match error {
-        CorsInitError::Config(_) => Ok(None),
-        CorsInitError::Memory => Err(AllocError),
+fn made_by(cors: &Result<Cors<ByRule>, AllocError>, inner: Giving) -> Made {
+    match cors {
+        Ok(cors) => made(cors, inner),
+        Err(_) => Err(CorsInitError::Memory),
     }
 }
 
-// The service, or nothing where the policy is refused.
-fn unless_refused(
-    made: Result<Middleware, CorsInitError>,
-) -> Result<Option<Middleware>, AllocError> {
-    match made {
-        Ok(service) => Ok(Some(service)),
-        Err(error) => refused(&error),
-    }
-}
-
-// The service under the policy, or nothing where the policy is refused.
-fn service_of(
-    alloc: Global,
-    steps: &[Step],
-    reply: Reply,
-) -> Result<Option<Middleware>, AllocError> {
-    let cors = built(alloc, steps)?;
-    unless_refused(made(&cors, Giving { alloc, reply }))
-}
-
-// Both under the policy, or nothing where the policy is refused.
-fn pair_of(alloc: Global, steps: &[Step], reply: Reply) -> Result<Option<Pair>, AllocError> {
-    match service_of(alloc, steps, reply)? {
-        Some(service) => Ok(Some(Pair {
-            service,
-            policy: plain(alloc, steps)?,
-            reply,
-        })),
-        None => Ok(None),
-    }
+// The service under the policy of these calls.
+fn service_of(alloc: Global, steps: &[Step], reply: Reply) -> Made {
+    let cors = built(alloc, steps);
+    let service = made_by(&cors, Giving { alloc, reply });
+    drop(cors);
+    service
 }
 
 // Asks both with each request.
@@ -244,19 +364,71 @@ fn compare_all(
     Ok(())
 }
 
-// Asks both with each request. A policy that is refused is another answer behind those of the requests.
-fn compare_pair(
+// Asks the service and the plain policy, where that was made, with each request.
+fn compare_to(
     site: &Site,
-    pair: &Option<Pair>,
+    service: &Middleware,
+    policy: &Result<Policy, AllocError>,
+    reply: Reply,
     at: (usize, usize),
     tally: &mut Tally,
 ) -> Result<(), AllocError> {
-    match pair {
-        Some(pair) => compare_all(site, pair, at, tally),
-        None => {
+    match policy {
+        Ok(policy) => {
+            let pair = Pair {
+                service,
+                policy,
+                reply,
+            };
+            compare_all(site, &pair, at, tally)
+        }
+        Err(error) => Err(*error),
+    }
+}
+
+// Asks the service and the plain policy of these calls with each request.
+fn compare_under(
+    site: &Site,
+    service: &Middleware,
+    steps: &[Step],
+    reply: Reply,
+    at: (usize, usize),
+    tally: &mut Tally,
+) -> Result<(), AllocError> {
+    let policy = plain(site.alloc, steps);
+    let compared = compare_to(site, service, &policy, reply, at, tally);
+    drop(policy);
+    compared
+}
+
+// A policy that is refused is another answer behind those of the requests.
+fn note_refused(
+    site: &Site,
+    error: &CorsInitError,
+    at: (usize, usize),
+    tally: &mut Tally,
+) -> Result<(), AllocError> {
+    match error {
+        CorsInitError::Config(_) => {
             tally.note_other((at.0, at.1, site.requests.len()));
             Ok(())
         }
+        CorsInitError::Memory => Err(AllocError),
+    }
+}
+
+// The same, where the service was made.
+fn compare_made(
+    site: &Site,
+    service: &Made,
+    steps: &[Step],
+    reply: Reply,
+    at: (usize, usize),
+    tally: &mut Tally,
+) -> Result<(), AllocError> {
+    match service {
+        Ok(service) => compare_under(site, service, steps, reply, at, tally),
+        Err(error) => note_refused(site, error, at, tally),
     }
 }
 
@@ -268,8 +440,10 @@ fn compare_reply(
     at: (usize, usize),
     tally: &mut Tally,
 ) -> Result<(), AllocError> {
-    let pair = pair_of(site.alloc, steps, reply)?;
-    compare_pair(site, &pair, at, tally)
+    let service = service_of(site.alloc, steps, reply);
+    let compared = compare_made(site, &service, steps, reply, at, tally);
+    drop(service);
+    compared
 }
 
 // Each reply under the policy with the number.
@@ -285,12 +459,26 @@ fn compare_policy(
     Ok(())
 }
 
+// Each of these policies with each reply and each request.
+fn compare_policies(
+    site: &Site,
+    policies: &[&[Step]],
+    tally: &mut Tally,
+) -> Result<(), AllocError> {
+    for (number, steps) in policies.iter().enumerate() {
+        compare_policy(site, number, steps, tally)?;
+    }
+    Ok(())
+}
+
 // Each policy with each reply and each request.
+fn compare_each(site: &Site, tally: &mut Tally) -> Result<(), AllocError> {
+    compare_policies(site, &POLICIES, tally)
+}
+
 fn table(site: &Site) -> Result<Tally, AllocError> {
     let mut tally = Tally::default();
-    for (number, steps) in POLICIES.iter().enumerate() {
-        compare_policy(site, number, steps, &mut tally)?;
-    }
+    compare_each(site, &mut tally)?;
     Ok(tally)
 }
 
@@ -318,7 +506,14 @@ fn has_whole_tally(
     replies: &[Reply],
     expected: &Tally,
 ) -> Result<bool, AllocError> {
-    has_tally(task, alloc, replies, &REQUESTS, expected)
+    match requests(alloc) {
+        Ok(requests) => {
+            let shown = has_tally(task, alloc, replies, &requests, expected);
+            drop(requests);
+            shown
+        }
+        Err(error) => Err(error),
+    }
 }
 
 // How often each kind of answer comes, and the digest of all answers. Both were computed from the table alone, by a program
@@ -364,8 +559,9 @@ fn is_as_expected(task: &MockTask, alloc: Global) -> Result<bool, AllocError> {
 #[test]
 fn the_middleware_answers_each_pair_by_the_definition(rt: HostRuntime) -> Result<(), Fail> {
     let task = MockTask::new(&rt)?;
-    assert!(rt; is_as_expected(&task, rt.alloc())?);
-    Ok(())
+    let shown = is_as_expected(&task, rt.alloc());
+    drop(task);
+    holds(&rt, shown)
 }
 
 // Whether the table of long names has the expected counts and digest.
@@ -384,6 +580,7 @@ fn names_at_the_limit_of_their_length_are_answered_by_the_definition(
     rt: HostRuntime,
 ) -> Result<(), Fail> {
     let task = MockTask::new(&rt)?;
-    assert!(rt; are_long_names_as_expected(&task, rt.alloc())?);
-    Ok(())
+    let shown = are_long_names_as_expected(&task, rt.alloc());
+    drop(task);
+    holds(&rt, shown)
 }

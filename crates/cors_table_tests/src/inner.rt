@@ -2,10 +2,10 @@
 ghost use Rattle.service_core.specs.Meaning.{GivesOnly};
 
 use crate::requests::{Field, header_list, pairs};
-use cors_plain::Response as Plain;
+use cors_plain::{Header, Response as Plain};
 use futures::Future;
 use futures::task::{Context, Poll};
-use http1_plain::{ErrorResponse, Request, Response};
+use http1_plain::{ErrorResponse, HeaderList, Request, Response};
 use service_core::{Octets, Ready, Service, ready};
 use std::alloc::{AllocError, Global};
 
@@ -56,16 +56,61 @@ pub(crate) const REPLIES: [Reply; 4] = [
     },
 ];
 
+/// An empty response, where there is such a status.
+pub(crate) fn empty_response(alloc: Global, status: u16) -> Result<Response, AllocError> {
+    if status < 200 || status > 999 {
+        return Err(AllocError);
+    }
+    Ok(Response::new(alloc, status))
+}
+
+fn text_response(alloc: Global, status: u16, body: &str) -> Result<Response, AllocError> {
+    if status < 200 || status > 999 {
+        return Err(AllocError);
+    }
+    Response::text(alloc, status, body)
+}
+
+/// The response gets these headers.
+pub(crate) fn set_headers(
+    response: &mut Response,
+    headers: Result<HeaderList, AllocError>,
+) -> Result<(), AllocError> {
+    match headers {
+        Ok(headers) => Ok(response.set_headers(headers)),
+        Err(error) => Err(error),
+    }
+}
+
+/// The response, where all of it was set.
+pub(crate) fn once_set(
+    response: Response,
+    set: Result<(), AllocError>,
+) -> Result<Response, AllocError> {
+    match set {
+        Ok(()) => Ok(response),
+        Err(error) => {
+            drop(response);
+            Err(error)
+        }
+    }
+}
+
+fn with_headers(
+    mut response: Response,
+    headers: Result<HeaderList, AllocError>,
+) -> Result<Response, AllocError> {
+    let set = set_headers(&mut response, headers);
+    once_set(response, set)
+}
+
 impl Reply {
     // The response as the service gives it.
     fn response(self, alloc: Global) -> Result<Response, AllocError> {
-        if self.status < 200 || self.status > 999 {
-            return Err(AllocError);
+        match text_response(alloc, self.status, self.body) {
+            Ok(response) => with_headers(response, header_list(alloc, self.fields)),
+            Err(error) => Err(error),
         }
-        let headers = header_list(alloc, self.fields)?;
-        let mut response = Response::text(alloc, self.status, self.body)?;
-        response.set_headers(headers);
-        Ok(response)
     }
 
     // What the service gives.
@@ -78,13 +123,32 @@ impl Reply {
 
     /// The response as the plain program is given it.
     pub(crate) fn plain(self, alloc: Global) -> Result<Plain, AllocError> {
-        let headers = pairs(alloc, self.fields)?;
-        let body = Octets::of(alloc, self.body.as_bytes())?;
-        Ok(Plain {
-            status: self.status,
+        match pairs(alloc, self.fields) {
+            Ok(headers) => plain_of(
+                self.status,
+                headers,
+                Octets::of(alloc, self.body.as_bytes()),
+            ),
+            Err(error) => Err(error),
+        }
+    }
+}
+
+fn plain_of(
+    status: u16,
+    headers: Vec<Header>,
+    body: Result<Octets, AllocError>,
+) -> Result<Plain, AllocError> {
+    match body {
+        Ok(body) => Ok(Plain {
+            status,
             headers,
             body,
-        })
+        }),
+        Err(error) => {
+            drop(headers);
+            Err(error)
+        }
     }
 }
 

@@ -10,6 +10,8 @@ mod policies;
 #[cfg(test)]
 mod requests;
 #[cfg(test)]
+mod shown;
+#[cfg(test)]
 mod steps;
 #[cfg(test)]
 mod tally;

@@ -1,6 +1,6 @@
 //! The table's requests.
 
-use cors_plain::Head;
+use cors_plain::{Head, Header};
 use http::method::Method;
 use http_header::HeaderName;
 use http1_plain::{FieldValue, HeaderList, HttpVersion, Request, RequestHead};
@@ -33,7 +33,11 @@ const POST: Field = ("access-control-request-method", b"POST");
 
 const PUT: Field = ("ACCESS-CONTROL-REQUEST-METHOD", b"PUT");
 
-pub(crate) const REQUESTS: [Asked; 52] = [
+// In parts, since a list stands whole in the frame of the function that names it, where each step of its making is read beside
+// all the others.
+
+// Requests by GET, most with one origin.
+const ORIGINS: [Asked; 13] = [
     By("GET", &[]),
     By("GET", &[A]),
     By("GET", &[B]),
@@ -47,6 +51,10 @@ pub(crate) const REQUESTS: [Asked; 52] = [
     By("GET", &[("Origin", b"null")]),
     By("GET", &[("Origin", b"*")]),
     By("GET", &[("Origin", b"")]),
+];
+
+// Further requests that are no preflights.
+const OTHERS: [Asked; 10] = [
     By("GET", &[A, B]),
     By("GET", &[B, ("Accept", b"*/*"), A]),
     By(
@@ -60,6 +68,10 @@ pub(crate) const REQUESTS: [Asked; 52] = [
     By("POST", &[("Origin", b"https://evil.example")]),
     By("post", &[("Origin", b"https://evil.example")]),
     By("PUT", &[("Origin", b"a.example")]),
+];
+
+// Requests by OPTIONS, most of which ask for a method.
+const METHODS: [Asked; 14] = [
     By("OPTIONS", &[]),
     By("OPTIONS", &[A]),
     By("OPTIONS", &[PUT]),
@@ -80,6 +92,10 @@ pub(crate) const REQUESTS: [Asked; 52] = [
         &[A, ("Access-Control-Request-Method", b"X!#$%&'*+-.^_`|~")],
     ),
     By("OPTIONS", &[A, ("Access-Control-Request-Method", b"LOCK")]),
+];
+
+// Preflights that ask for headers.
+const HEADERS: [Asked; 15] = [
     By(
         "OPTIONS",
         &[A, PUT, ("Access-Control-Request-Headers", b"")],
@@ -166,6 +182,48 @@ pub(crate) const REQUESTS: [Asked; 52] = [
     ),
 ];
 
+fn add(list: &mut Vec<Asked>, rows: &[Asked]) -> Result<(), AllocError> {
+    for row in rows {
+        list.push(*row)?;
+    }
+    Ok(())
+}
+
+fn add_origins(list: &mut Vec<Asked>) -> Result<(), AllocError> {
+    add(list, &ORIGINS)
+}
+
+fn add_others(list: &mut Vec<Asked>) -> Result<(), AllocError> {
+    add(list, &OTHERS)
+}
+
+fn add_methods(list: &mut Vec<Asked>) -> Result<(), AllocError> {
+    add(list, &METHODS)
+}
+
+fn add_headers(list: &mut Vec<Asked>) -> Result<(), AllocError> {
+    add(list, &HEADERS)
+}
+
+fn add_all(list: &mut Vec<Asked>) -> Result<(), AllocError> {
+    add_origins(list)?;
+    add_others(list)?;
+    add_methods(list)?;
+    add_headers(list)
+}
+
+/// The requests in order.
+pub(crate) fn requests(alloc: Global) -> Result<Vec<Asked>, AllocError> {
+    let mut list = Vec::new(alloc);
+    match add_all(&mut list) {
+        Ok(()) => Ok(list),
+        Err(error) => {
+            drop(list);
+            Err(error)
+        }
+    }
+}
+
 /// A name may have 65,535 bytes.
 pub(crate) const LONG_NAMES: [Asked; 2] = [ForLongName(65535), ForLongName(65536)];
 
@@ -183,7 +241,11 @@ fn value_of(alloc: Global, text: &[u8]) -> Result<FieldValue, AllocError> {
     }
 }
 
-fn add(list: &mut HeaderList, name: HeaderName, value: FieldValue) -> Result<(), AllocError> {
+fn append_value(
+    list: &mut HeaderList,
+    name: HeaderName,
+    value: FieldValue,
+) -> Result<(), AllocError> {
     list.append(name, value)
 }
 
@@ -193,8 +255,13 @@ fn append_named(
     name: HeaderName,
     value: &[u8],
 ) -> Result<(), AllocError> {
-    let value = value_of(alloc, value)?;
-    add(list, name, value)
+    match value_of(alloc, value) {
+        Ok(value) => append_value(list, name, value),
+        Err(error) => {
+            drop(name);
+            Err(error)
+        }
+    }
 }
 
 /// One more header as the middleware is given it.
@@ -204,17 +271,29 @@ pub(crate) fn append(
     name: &[u8],
     value: &[u8],
 ) -> Result<(), AllocError> {
-    let name = name_of(alloc, name)?;
-    append_named(alloc, list, name, value)
+    match name_of(alloc, name) {
+        Ok(name) => append_named(alloc, list, name, value),
+        Err(error) => Err(error),
+    }
+}
+
+fn append_all(alloc: Global, list: &mut HeaderList, fields: &[Field]) -> Result<(), AllocError> {
+    for (name, value) in fields {
+        append(alloc, list, name.as_bytes(), value)?;
+    }
+    Ok(())
 }
 
 /// The headers as the middleware is given them.
 pub(crate) fn header_list(alloc: Global, fields: &[Field]) -> Result<HeaderList, AllocError> {
     let mut list = HeaderList::new(alloc);
-    for (name, value) in fields {
-        append(alloc, &mut list, name.as_bytes(), value)?;
+    match append_all(alloc, &mut list, fields) {
+        Ok(()) => Ok(list),
+        Err(error) => {
+            drop(list);
+            Err(error)
+        }
     }
-    Ok(list)
 }
 
 // The text with each letter in lower case.
@@ -226,29 +305,40 @@ fn lowercase(alloc: Global, text: &[u8]) -> Result<Octets, AllocError> {
     Ok(Octets::from_vec(lower))
 }
 
-fn push_pair(
-    alloc: Global,
-    list: &mut Vec<(Octets, Octets)>,
-    name: &str,
-    value: &[u8],
-) -> Result<(), AllocError> {
-    let name = lowercase(alloc, name.as_bytes())?;
-    push_value(alloc, list, name, value)
+fn push(list: &mut Vec<Header>, header: Header) -> Result<(), AllocError> {
+    list.push(header)?;
+    Ok(())
 }
 
 fn push_value(
     alloc: Global,
-    list: &mut Vec<(Octets, Octets)>,
+    list: &mut Vec<Header>,
     name: Octets,
     value: &[u8],
 ) -> Result<(), AllocError> {
-    let value = Octets::of(alloc, value)?;
-    list.push((name, value))?;
-    Ok(())
+    match Octets::of(alloc, value) {
+        Ok(value) => push(list, (name, value)),
+        Err(error) => {
+            drop(name);
+            Err(error)
+        }
+    }
+}
+
+fn push_pair(
+    alloc: Global,
+    list: &mut Vec<Header>,
+    name: &str,
+    value: &[u8],
+) -> Result<(), AllocError> {
+    match lowercase(alloc, name.as_bytes()) {
+        Ok(name) => push_value(alloc, list, name, value),
+        Err(error) => Err(error),
+    }
 }
 
 /// The headers as the plain program is given them.
-pub(crate) fn pairs(alloc: Global, fields: &[Field]) -> Result<Vec<(Octets, Octets)>, AllocError> {
+pub(crate) fn pairs(alloc: Global, fields: &[Field]) -> Result<Vec<Header>, AllocError> {
     let mut list = Vec::new(alloc);
     for (name, value) in fields {
         push_pair(alloc, &mut list, name, value)?;
@@ -285,56 +375,170 @@ fn request_by(alloc: Global, method: Method, target: Octets, headers: HeaderList
     }
 }
 
-fn request_of(alloc: Global, method: &str, headers: HeaderList) -> Result<Request, AllocError> {
-    let method = method_of(alloc, method)?;
-    let target = Octets::of(alloc, b"/")?;
-    Ok(request_by(alloc, method, target, headers))
+fn request_at(
+    alloc: Global,
+    method: Method,
+    target: Result<Octets, AllocError>,
+    headers: HeaderList,
+) -> Result<Request, AllocError> {
+    match target {
+        Ok(target) => Ok(request_by(alloc, method, target, headers)),
+        Err(error) => {
+            drop(method);
+            drop(headers);
+            Err(error)
+        }
+    }
+}
+
+fn request_of(
+    alloc: Global,
+    method: Result<Method, AllocError>,
+    headers: HeaderList,
+) -> Result<Request, AllocError> {
+    match method {
+        Ok(method) => request_at(alloc, method, Octets::of(alloc, b"/"), headers),
+        Err(error) => {
+            drop(headers);
+            Err(error)
+        }
+    }
+}
+
+fn request_with(
+    alloc: Global,
+    method: &str,
+    headers: Result<HeaderList, AllocError>,
+) -> Result<Request, AllocError> {
+    match headers {
+        Ok(headers) => request_of(alloc, method_of(alloc, method), headers),
+        Err(error) => Err(error),
+    }
+}
+
+// The list goes on with a header whose name is asked for.
+fn append_asked(
+    alloc: Global,
+    list: &mut HeaderList,
+    name: Result<Octets, AllocError>,
+) -> Result<(), AllocError> {
+    match name {
+        Ok(name) => {
+            let asked_for = b"Access-Control-Request-Headers";
+            let appended = append(alloc, list, asked_for, name.as_bytes());
+            drop(name);
+            appended
+        }
+        Err(error) => Err(error),
+    }
+}
+
+fn list_with_name(
+    alloc: Global,
+    mut list: HeaderList,
+    name: Result<Octets, AllocError>,
+) -> Result<HeaderList, AllocError> {
+    match append_asked(alloc, &mut list, name) {
+        Ok(()) => Ok(list),
+        Err(error) => {
+            drop(list);
+            Err(error)
+        }
+    }
 }
 
 fn list_with_long_name(alloc: Global, count: usize) -> Result<HeaderList, AllocError> {
-    let name = long_name(alloc, count)?;
-    let mut list = header_list(alloc, &[A, PUT])?;
-    append(
-        alloc,
-        &mut list,
-        b"Access-Control-Request-Headers",
-        name.as_bytes(),
-    )?;
+    match header_list(alloc, &[A, PUT]) {
+        Ok(list) => list_with_name(alloc, list, long_name(alloc, count)),
+        Err(error) => Err(error),
+    }
+}
+
+// The same of the headers as the plain program is given them.
+fn push_asked(
+    alloc: Global,
+    list: &mut Vec<Header>,
+    name: Result<Octets, AllocError>,
+) -> Result<(), AllocError> {
+    match name {
+        Ok(name) => {
+            let asked_for = "access-control-request-headers";
+            let pushed = push_pair(alloc, list, asked_for, name.as_bytes());
+            drop(name);
+            pushed
+        }
+        Err(error) => Err(error),
+    }
+}
+
+fn pairs_with_name(
+    alloc: Global,
+    mut list: Vec<Header>,
+    name: Result<Octets, AllocError>,
+) -> Result<Vec<Header>, AllocError> {
+    push_asked(alloc, &mut list, name)?;
     Ok(list)
 }
 
-fn pairs_with_long_name(alloc: Global, count: usize) -> Result<Vec<(Octets, Octets)>, AllocError> {
-    let name = long_name(alloc, count)?;
-    let mut list = pairs(alloc, &[A, PUT])?;
-    push_pair(
-        alloc,
-        &mut list,
-        "access-control-request-headers",
-        name.as_bytes(),
-    )?;
-    Ok(list)
+fn pairs_with_long_name(alloc: Global, count: usize) -> Result<Vec<Header>, AllocError> {
+    match pairs(alloc, &[A, PUT]) {
+        Ok(list) => pairs_with_name(alloc, list, long_name(alloc, count)),
+        Err(error) => Err(error),
+    }
+}
+
+fn head_at(
+    method: Octets,
+    target: Result<Octets, AllocError>,
+    headers: Vec<Header>,
+) -> Result<Head, AllocError> {
+    match target {
+        Ok(target) => Ok(Head {
+            method,
+            target,
+            minor: 1,
+            headers,
+        }),
+        Err(error) => {
+            drop(method);
+            drop(headers);
+            Err(error)
+        }
+    }
 }
 
 fn head_of(
     alloc: Global,
-    method: &str,
-    headers: Vec<(Octets, Octets)>,
+    method: Result<Octets, AllocError>,
+    headers: Vec<Header>,
 ) -> Result<Head, AllocError> {
-    Ok(Head {
-        method: Octets::of(alloc, method.as_bytes())?,
-        target: Octets::of(alloc, b"/")?,
-        minor: 1,
-        headers,
-    })
+    match method {
+        Ok(method) => head_at(method, Octets::of(alloc, b"/"), headers),
+        Err(error) => {
+            drop(headers);
+            Err(error)
+        }
+    }
+}
+
+fn head_with(
+    alloc: Global,
+    method: &str,
+    headers: Result<Vec<Header>, AllocError>,
+) -> Result<Head, AllocError> {
+    match headers {
+        Ok(headers) => head_of(alloc, Octets::of(alloc, method.as_bytes()), headers),
+        Err(error) => Err(error),
+    }
 }
 
 impl Asked {
     /// The request as the middleware is given it.
     pub(crate) fn request(self, alloc: Global) -> Result<Request, AllocError> {
         match self {
-            By(method, fields) => request_of(alloc, method, header_list(alloc, fields)?),
+            By(method, fields) => request_with(alloc, method, header_list(alloc, fields)),
             ForLongName(count) => {
-                request_of(alloc, "OPTIONS", list_with_long_name(alloc, count)?)
+                request_with(alloc, "OPTIONS", list_with_long_name(alloc, count))
             }
         }
     }
@@ -342,8 +546,8 @@ impl Asked {
     /// The request's head as the plain program is given it.
     pub(crate) fn head(self, alloc: Global) -> Result<Head, AllocError> {
         match self {
-            By(method, fields) => head_of(alloc, method, pairs(alloc, fields)?),
-            ForLongName(count) => { head_of(alloc, "OPTIONS", pairs_with_long_name(alloc, count)?) }
+            By(method, fields) => head_with(alloc, method, pairs(alloc, fields)),
+            ForLongName(count) => head_with(alloc, "OPTIONS", pairs_with_long_name(alloc, count)),
         }
     }
 }

@@ -93,7 +93,10 @@ fn continued(cors: Cors<ByRule>, step: Step) -> Result<Cors<ByRule>, AllocError>
 // The builder after the call.
 fn called(alloc: Global, cors: Cors<ByRule>, step: Step) -> Result<Cors<ByRule>, AllocError> {
     match step {
-        Step::Permissive => Cors::permissive(alloc),
+        Step::Permissive => {
+            drop(cors);
+            Cors::permissive(alloc)
+        }
         _ => continued(cors, step),
     }
 }
@@ -112,30 +115,51 @@ const METHODS: [&[u8]; 9] = [
     b"GET", b"HEAD", b"POST", b"PUT", b"DELETE", b"CONNECT", b"OPTIONS", b"TRACE", b"PATCH",
 ];
 
-fn with_all_methods(alloc: Global, mut policy: Policy) -> Result<Policy, AllocError> {
-    policy.methods = Texts::new(alloc);
-    for method in METHODS {
+fn with_methods(
+    alloc: Global,
+    mut policy: Policy,
+    methods: &[&[u8]],
+) -> Result<Policy, AllocError> {
+    for method in methods {
         policy = policy.with_method(alloc, method)?;
     }
     Ok(policy)
 }
 
-fn permissive(alloc: Global) -> Result<Policy, AllocError> {
-    let mut policy = with_all_methods(alloc, Policy::strict(alloc))?;
-    policy.origins = AllOrSome::All;
-    policy.headers = AllOrSome::All;
-    policy.exposed = AllOrSome::All;
-    policy.max_age = Some(3600);
-    policy.credentials = true;
-    Ok(policy)
+fn clear(methods: &mut Texts, alloc: Global) {
+    *methods = Texts::new(alloc);
 }
 
-// The plain policy after the call, where it sets a flag, a number or everything.
-fn with_flag(mut policy: Policy, step: Step) -> Policy {
+fn with_all_methods(alloc: Global, mut policy: Policy) -> Result<Policy, AllocError> {
+    clear(&mut policy.methods, alloc);
+    with_methods(alloc, policy, &METHODS)
+}
+
+fn allow_all(set: &mut AllOrSome<Texts>) {
+    *set = AllOrSome::All;
+}
+
+// All but the methods is allowed.
+fn open(policy: &mut Policy) {
+    allow_all(&mut policy.origins);
+    allow_all(&mut policy.headers);
+    allow_all(&mut policy.exposed);
+    policy.max_age = Some(3600);
+    policy.credentials = true;
+}
+
+fn permissive(alloc: Global) -> Result<Policy, AllocError> {
+    let mut policy = Policy::strict(alloc);
+    open(&mut policy);
+    with_all_methods(alloc, policy)
+}
+
+// The call sets a flag, a number or everything.
+fn set_flag(policy: &mut Policy, step: Step) {
     match step {
-        Step::AnyOrigin => policy.origins = AllOrSome::All,
-        Step::AnyHeader => policy.headers = AllOrSome::All,
-        Step::ExposeAny => policy.exposed = AllOrSome::All,
+        Step::AnyOrigin => allow_all(&mut policy.origins),
+        Step::AnyHeader => allow_all(&mut policy.headers),
+        Step::ExposeAny => allow_all(&mut policy.exposed),
         Step::Age(age) => policy.max_age = age,
         Step::Wildcard => policy.wildcard = true,
         Step::Credentials => policy.credentials = true,
@@ -144,20 +168,42 @@ fn with_flag(mut policy: Policy, step: Step) -> Policy {
         Step::Block => policy.block = true,
         _ => {}
     }
+}
+
+// The plain policy after the call, where it sets a flag, a number or everything.
+fn with_flag(mut policy: Policy, step: Step) -> Policy {
+    set_flag(&mut policy, step);
     policy
+}
+
+// The plain policy after the call, where it is neither about all methods nor about origins.
+fn with_text(alloc: Global, policy: Policy, step: Step) -> Result<Policy, AllocError> {
+    match step {
+        Step::Method(text) => policy.with_method(alloc, text.as_bytes()),
+        Step::Header(text) => policy.with_header(alloc, text.as_bytes()),
+        Step::Expose(text) => policy.with_exposed(alloc, text.as_bytes()),
+        _ => Ok(with_flag(policy, step)),
+    }
+}
+
+// The plain policy after the call, where it goes on with what was allowed before.
+fn with_more(alloc: Global, policy: Policy, step: Step) -> Result<Policy, AllocError> {
+    match step {
+        Step::Origin(text) => policy.with_origin(alloc, text.as_bytes()),
+        Step::AlsoBy(rule) => policy.with_rule(rule),
+        Step::AnyMethod => with_all_methods(alloc, policy),
+        _ => with_text(alloc, policy, step),
+    }
 }
 
 // The plain policy after the call.
 fn with_step(alloc: Global, policy: Policy, step: Step) -> Result<Policy, AllocError> {
     match step {
-        Step::Permissive => permissive(alloc),
-        Step::Origin(text) => policy.with_origin(alloc, text.as_bytes()),
-        Step::AlsoBy(rule) => policy.with_rule(rule),
-        Step::AnyMethod => with_all_methods(alloc, policy),
-        Step::Method(text) => policy.with_method(alloc, text.as_bytes()),
-        Step::Header(text) => policy.with_header(alloc, text.as_bytes()),
-        Step::Expose(text) => policy.with_exposed(alloc, text.as_bytes()),
-        _ => Ok(with_flag(policy, step)),
+        Step::Permissive => {
+            drop(policy);
+            permissive(alloc)
+        }
+        _ => with_more(alloc, policy, step),
     }
 }
 

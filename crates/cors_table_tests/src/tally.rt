@@ -1,6 +1,6 @@
 //! How often each kind of answer came.
 
-use cors_plain::Verdict;
+use cors_plain::{Response, Verdict};
 use cors_rules::CorsError;
 use service_core::Octets;
 
@@ -40,13 +40,22 @@ const ERRORS: [CorsError; 8] = [
     CorsError::HeadersNotAllowed,
 ];
 
-fn error_of(body: &[u8]) -> Option<CorsError> {
-    for error in ERRORS {
-        if error.text().as_bytes() == body {
-            return Some(error);
+fn is_told_by(error: CorsError, body: &[u8]) -> bool {
+    error.text().as_bytes() == body
+}
+
+// The first of the errors that the body tells.
+fn told_of(errors: &[CorsError], body: &[u8]) -> Option<CorsError> {
+    for error in errors {
+        if is_told_by(*error, body) {
+            return Some(*error);
         }
     }
     None
+}
+
+fn error_of(body: &[u8]) -> Option<CorsError> {
+    told_of(&ERRORS, body)
 }
 
 fn count(number: &mut u32) {
@@ -88,22 +97,33 @@ impl Tally {
         }
     }
 
+    // One more request that is answered here.
+    fn count_answer(&mut self, response: &Response, is_preflight: bool) {
+        let error = error_of(response.body.as_bytes());
+        if !is_preflight {
+            self.count_block(error);
+        } else if response.status == 200 {
+            count(&mut self.preflights);
+        } else {
+            self.count_refusal(error);
+        }
+    }
+
+    // One more request that is handed on.
+    fn count_grant(&mut self, is_granted: bool) {
+        if is_granted {
+            count(&mut self.granted);
+        } else {
+            count(&mut self.not_granted);
+        }
+    }
+
     /// One more pair, with what becomes of the request.
     pub(crate) fn count_pair(&mut self, verdict: &Verdict, is_preflight: bool) {
         count(&mut self.pairs);
         match verdict {
-            Verdict::HandedOn(None) => count(&mut self.not_granted),
-            Verdict::HandedOn(Some(_)) => count(&mut self.granted),
-            Verdict::Answered(response) => {
-                let error = error_of(response.body.as_bytes());
-                if !is_preflight {
-                    self.count_block(error);
-                } else if response.status == 200 {
-                    count(&mut self.preflights);
-                } else {
-                    self.count_refusal(error);
-                }
-            }
+            Verdict::HandedOn(grant) => self.count_grant(grant.is_some()),
+            Verdict::Answered(response) => self.count_answer(response, is_preflight),
         }
     }
 

@@ -77,7 +77,10 @@ where
     requires { F.can_make factory }
 {
     let mut future = factory.new_service(());
-    is_made(task.poll(&mut future))
+    let made = task.poll(&mut future);
+    drop(future);
+    drop(factory);
+    is_made(made)
 }
 
 // Whether a factory under a transform makes a service at once.

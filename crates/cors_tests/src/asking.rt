@@ -17,8 +17,23 @@ use std::process::Abort;
 use std::random::RandomSource;
 use std::test::Fail;
 
+/// By which method something is asked. A request's own method may own memory, whose end each function that is handed it would
+/// have.
+#[derive(Clone, Copy)]
+pub(crate) enum Verb {
+    Get,
+    Options,
+}
+
+fn method_of(verb: Verb) -> Method {
+    match verb {
+        Verb::Get => Method::GET,
+        Verb::Options => Method::OPTIONS,
+    }
+}
+
 /// A method, and names and values.
-pub(crate) type Asked<'a> = (Method, &'a [(&'a str, &'a str)]);
+pub(crate) type Asked<'a> = (Verb, &'a [(&'a str, &'a str)]);
 
 fn name_of(alloc: Global, text: &str) -> Result<HeaderName, AllocError> {
     match HeaderName::from_bytes(alloc, text.as_bytes()) {
@@ -48,7 +63,10 @@ fn put_named(
 ) -> Result<(), AllocError> {
     match value_of(alloc, value) {
         Ok(value) => append(list, name, value),
-        Err(error) => Err(error),
+        Err(error) => {
+            drop(name);
+            Err(error)
+        }
     }
 }
 
@@ -60,13 +78,28 @@ fn put(list: &mut HeaderList, alloc: Global, name: &str, value: &str) -> Result<
     }
 }
 
+// The list goes on with these headers.
+fn put_all(
+    list: &mut HeaderList,
+    alloc: Global,
+    fields: &[(&str, &str)],
+) -> Result<(), AllocError> {
+    for (name, value) in fields {
+        put(list, alloc, name, value)?;
+    }
+    Ok(())
+}
+
 /// A list of these headers.
 pub(crate) fn list_of(alloc: Global, fields: &[(&str, &str)]) -> Result<HeaderList, AllocError> {
     let mut list = HeaderList::new(alloc);
-    for (name, value) in fields {
-        put(&mut list, alloc, name, value)?;
+    match put_all(&mut list, alloc, fields) {
+        Ok(()) => Ok(list),
+        Err(error) => {
+            drop(list);
+            Err(error)
+        }
     }
-    Ok(list)
 }
 
 // A head for `/` with the headers.
@@ -82,14 +115,18 @@ fn head_with(
             version: HttpVersion::Http11,
             headers,
         }),
-        Err(error) => Err(error),
+        Err(error) => {
+            drop(method);
+            drop(headers);
+            Err(error)
+        }
     }
 }
 
 /// A head for `/`.
 pub(crate) fn head(alloc: Global, asked: Asked) -> Result<RequestHead, AllocError> {
     match list_of(alloc, asked.1) {
-        Ok(headers) => head_with(alloc, asked.0, headers),
+        Ok(headers) => head_with(alloc, method_of(asked.0), headers),
         Err(error) => Err(error),
     }
 }
@@ -115,7 +152,9 @@ fn polled<G: OriginRule>(
     request: Request,
 ) -> Poll<Answer> {
     let mut future = service.call(request);
-    task.poll(&mut future)
+    let polled = task.poll(&mut future);
+    drop(future);
+    polled
 }
 
 fn no_response(fault: &CorsFault) -> Result<Option<Response>, AllocError> {
@@ -197,52 +236,21 @@ pub(crate) fn response_under<G: OriginRule>(
 
 fn written(alloc: Global, response: &Response) -> Result<Octets, AllocError> {
     let mut out = Octets::new(alloc);
-    write_response(&mut out, &Method::GET, HttpVersion::Http11, response, false)?;
-    Ok(out)
-}
-
-const VARY_LINE: &str =
-    "vary: Origin, Access-Control-Request-Method, Access-Control-Request-Headers\r\n";
-
-// What a part stands for.
-fn part_of<'a>(part: &'a str) -> &'a str {
-    match part {
-        "V" => VARY_LINE,
-        "T" => "content-type: text/plain\r\n",
-        "R" => "HTTP/1.1 200 OK\r\n",
-        "B" => "HTTP/1.1 400 Bad Request\r\n",
-        "H" => "content-length: 12\r\n\r\nHello world!",
-        "0" => "content-length: 0\r\n\r\n",
-        other => other,
+    match write_response(&mut out, &Method::GET, HttpVersion::Http11, response, false) {
+        Ok(()) => Ok(out),
+        Err(error) => {
+            drop(out);
+            Err(error)
+        }
     }
 }
 
-// The parts, with V for the line of `vary` and T for that of `content-type`.
-fn text(alloc: Global, parts: &[&str]) -> Result<Octets, AllocError> {
-    let mut out = Octets::new(alloc);
-    for part in parts {
-        out.push_all(part_of(part).as_bytes())?;
-    }
-    Ok(out)
-}
-
-fn is_written(alloc: Global, response: &Response, text: &Octets) -> Result<bool, AllocError> {
+fn is_text(alloc: Global, response: &Response, text: &str) -> Result<bool, AllocError> {
     match written(alloc, response) {
         Ok(written) => {
-            let shown = written == *text;
+            let shown = written.as_bytes() == text.as_bytes();
             drop(written);
             Ok(shown)
-        }
-        Err(error) => Err(error),
-    }
-}
-
-fn is_text(alloc: Global, response: &Response, parts: &[&str]) -> Result<bool, AllocError> {
-    match text(alloc, parts) {
-        Ok(text) => {
-            let shown = is_written(alloc, response, &text);
-            drop(text);
-            shown
         }
         Err(error) => Err(error),
     }
@@ -251,10 +259,10 @@ fn is_text(alloc: Global, response: &Response, parts: &[&str]) -> Result<bool, A
 fn is_some_text(
     alloc: Global,
     response: &Option<Response>,
-    parts: &[&str],
+    text: &str,
 ) -> Result<bool, AllocError> {
     match response {
-        Some(response) => is_text(alloc, response, parts),
+        Some(response) => is_text(alloc, response, text),
         None => Ok(false),
     }
 }
@@ -262,28 +270,28 @@ fn is_some_text(
 fn is_text_of_answer(
     alloc: Global,
     answer: &Result<Option<Response>, AllocError>,
-    parts: &[&str],
+    text: &str,
 ) -> Result<bool, AllocError> {
     match answer {
-        Ok(response) => is_some_text(alloc, response, parts),
+        Ok(response) => is_some_text(alloc, response, text),
         Err(error) => Err(*error),
     }
 }
 
-/// Whether the answer to a request is these parts.
+/// Whether the answer to a request is this text.
 pub(crate) fn is_answered<G: OriginRule>(
     task: &MockTask,
     alloc: Global,
     cors: &Cors<G>,
     asked: Asked,
-    parts: &[&str],
+    text: &str,
 ) -> Result<bool, AllocError> {
     let inner = Inner {
         alloc,
         is_empty: false,
     };
     let answer = response_under(task, inner, cors, asked);
-    let shown = is_text_of_answer(alloc, &answer, parts);
+    let shown = is_text_of_answer(alloc, &answer, text);
     drop(answer);
     shown
 }
@@ -294,34 +302,34 @@ pub(crate) fn is_answered_under<G: OriginRule>(
     alloc: Global,
     cors: &Result<Cors<G>, AllocError>,
     asked: Asked,
-    parts: &[&str],
+    text: &str,
 ) -> Result<bool, AllocError> {
     match cors {
-        Ok(cors) => is_answered(task, alloc, cors, asked, parts),
+        Ok(cors) => is_answered(task, alloc, cors, asked, text),
         Err(error) => Err(*error),
     }
 }
 
-fn are_parts(
+fn is_answered_after(
     task: &MockTask,
     alloc: Global,
     calls: &[Call],
     asked: Asked,
-    parts: &[&str],
+    text: &str,
 ) -> Result<bool, AllocError> {
     let cors = built(alloc, calls);
-    let shown = is_answered_under(task, alloc, &cors, asked, parts);
+    let shown = is_answered_under(task, alloc, &cors, asked, text);
     drop(cors);
     shown
 }
 
-/// These parts answer a request under a policy without rules.
-pub(crate) fn answers<R>(rt: &R, calls: &[Call], asked: Asked, parts: &[&str]) -> Result<(), Fail>
+/// This text answers a request under a policy without rules.
+pub(crate) fn answers<R>(rt: &R, calls: &[Call], asked: Asked, text: &str) -> Result<(), Fail>
 where
     R: RandomSource + AllocGlobal + Abort,
 {
     let task = MockTask::new(rt)?;
-    let shown = are_parts(&task, rt.alloc(), calls, asked, parts);
+    let shown = is_answered_after(&task, rt.alloc(), calls, asked, text);
     drop(task);
     holds(rt, shown)
 }

@@ -1,5 +1,5 @@
 //! Copies of a service under a policy.
-use crate::asking::{Asked, Made, response_by, service_under};
+use crate::asking::{Asked, Made, Verb, response_by, service_under};
 use crate::building::Call::{Block, Origin};
 use crate::building::built;
 use crate::empty_answers::has_answer_status;
@@ -8,7 +8,6 @@ use crate::shown::hold;
 use cors_answer::{Cors, CorsMiddleware};
 use cors_policy::NoRule;
 use futures::test::MockTask;
-use http::method::Method;
 use std::alloc::{AllocError, Global};
 use std::test::Fail;
 
@@ -92,8 +91,8 @@ fn a_copy_answers_under_the_same_policy(rt: HostRuntime) -> Result<(), Fail> {
     let granted = [("Origin", "https://a.example")];
     let other = [("Origin", "https://b.example")];
     let shown = [
-        blocks(&task, alloc, ((Method::GET, &granted), 200)),
-        blocks(&task, alloc, ((Method::GET, &other), 400)),
+        blocks(&task, alloc, ((Verb::Get, &granted), 200)),
+        blocks(&task, alloc, ((Verb::Get, &other), 400)),
     ];
     drop(task);
     hold(&rt, &shown)

@@ -1,7 +1,7 @@
 //! What becomes of requests to a service that answers 204.
 ghost use Rattle.std.specs.Prelude.{true};
 
-use crate::asking::response_under;
+use crate::asking::{Verb, response_under};
 use crate::building::Call::{AnyHeader, AnyMethod, NoPreflight};
 use crate::building::{Call, ruled};
 use crate::inner::Inner;
@@ -9,7 +9,6 @@ use crate::shown::{every, hold};
 use cors_answer::Cors;
 use cors_policy::OriginRule;
 use futures::test::MockTask;
-use http::method::Method;
 use http1_plain::{RequestHead, Response};
 use std::alloc::{AllocError, Global};
 use std::test::Fail;
@@ -50,7 +49,7 @@ fn gives_status(
     task: &MockTask,
     alloc: Global,
     cors: &Cors<Always>,
-    row: (Method, u16),
+    row: (Verb, u16),
 ) -> Result<bool, AllocError> {
     let fields = [
         ("Origin", "https://a.example"),
@@ -70,7 +69,7 @@ fn gives_status_under(
     task: &MockTask,
     alloc: Global,
     cors: &Result<Cors<Always>, AllocError>,
-    row: (Method, u16),
+    row: (Verb, u16),
 ) -> Result<bool, AllocError> {
     match cors {
         Ok(cors) => gives_status(task, alloc, cors, row),
@@ -83,7 +82,7 @@ fn has_status(
     task: &MockTask,
     alloc: Global,
     calls: &[Call],
-    row: (Method, u16),
+    row: (Verb, u16),
 ) -> Result<bool, AllocError> {
     let cors = ruled(alloc, Always, calls);
     let shown = gives_status_under(task, alloc, &cors, row);
@@ -95,15 +94,15 @@ fn has_status(
 fn answers_preflights(task: &MockTask, alloc: Global) -> Result<bool, AllocError> {
     let calls = [AnyMethod, AnyHeader];
     every(&[
-        has_status(task, alloc, &calls, (Method::OPTIONS, 200)),
-        has_status(task, alloc, &calls, (Method::GET, 204)),
+        has_status(task, alloc, &calls, (Verb::Options, 200)),
+        has_status(task, alloc, &calls, (Verb::Get, 204)),
     ])
 }
 
 // Whether a preflight is handed on where that is disabled.
 fn hands_preflights_on(task: &MockTask, alloc: Global) -> Result<bool, AllocError> {
     let calls = [AnyMethod, AnyHeader, NoPreflight];
-    has_status(task, alloc, &calls, (Method::OPTIONS, 204))
+    has_status(task, alloc, &calls, (Verb::Options, 204))
 }
 
 #[test]

@@ -39,7 +39,10 @@ where
         alloc,
         is_empty: false,
     });
-    fault_in(task.poll(&mut future))
+    let made = task.poll(&mut future);
+    drop(future);
+    drop(transform);
+    fault_in(made)
 }
 
 // The same, where a closure changes what comes in place of a service.

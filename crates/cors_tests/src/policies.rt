@@ -3,7 +3,7 @@ ghost use Rattle.std.specs.Prelude.{nat_eq, codes};
 ghost use Rattle.std.specs.List.{ends_with};
 
 use crate::asking::{
-    Asked, Made, answers, head, is_answered, is_answered_under, list_of, service_under,
+    Asked, Made, Verb, answers, head, is_answered, is_answered_under, list_of, service_under,
 };
 use crate::building::Call::{
     Age, AnyOrigin, Block, Credentials, Expose, ExposeAny, Headers, Methods, NoPreflight, NoVary,
@@ -17,7 +17,6 @@ use cors_answer::{Cors, CorsFault, CorsInitError, CorsMiddleware, CorsRefusal};
 use cors_policy::{ConfigError, CorsError, NoRule, OriginRule, Policy};
 use futures::task::Poll;
 use futures::test::MockTask;
-use http::method::Method;
 use http_header::VARY;
 use http1_plain::{ErrorResponse, FieldValue, HeaderList, RequestHead, Response};
 use service_core::{NoMemory, Service};
@@ -118,7 +117,7 @@ fn refusals_by_each_check(rt: HostRuntime) -> Result<(), Fail> {
     );
     holds(
         &rt,
-        policy_says(rt.alloc(), &calls, (Method::GET, &fields), checks),
+        policy_says(rt.alloc(), &calls, (Verb::Get, &fields), checks),
     )
 }
 
@@ -150,21 +149,21 @@ fn rust_lang_gives(
     task: &MockTask,
     alloc: Global,
     asked: Asked,
-    parts: &[&str],
+    text: &str,
 ) -> Result<bool, AllocError> {
     let cors = rust_lang(alloc);
-    let shown = is_answered_under(task, alloc, &cors, asked, parts);
+    let shown = is_answered_under(task, alloc, &cors, asked, text);
     drop(cors);
     shown
 }
 
-// These parts answer a request under that policy.
-fn rust_lang_answers<R>(rt: &R, asked: Asked, parts: &[&str]) -> Result<(), Fail>
+// This text answers a request under that policy.
+fn rust_lang_answers<R>(rt: &R, asked: Asked, text: &str) -> Result<(), Fail>
 where
     R: RandomSource + AllocGlobal + Abort,
 {
     let task = MockTask::new(rt)?;
-    let shown = rust_lang_gives(&task, rt.alloc(), asked, parts);
+    let shown = rust_lang_gives(&task, rt.alloc(), asked, text);
     drop(task);
     holds(rt, shown)
 }
@@ -175,14 +174,9 @@ fn a_rule_allows_an_origin(rt: HostRuntime) -> Result<(), Fail> {
         ("Origin", "https://blog.rust-lang.org"),
         ("Access-Control-Request-Method", "POST"),
     ];
-    let parts = [
-        "R",
-        "access-control-allow-origin: https://blog.rust-lang.org\r\naccess-control-allow-methods: GET, POST\r\n",
-        "access-control-allow-headers: accept, authorization, content-type\r\naccess-control-max-age: 3600\r\n",
-        "V",
-        "0",
-    ];
-    rust_lang_answers(&rt, (Method::OPTIONS, &fields), &parts)
+    let text =
+        "HTTP/1.1 200 OK\r\naccess-control-allow-origin: https://blog.rust-lang.org\r\naccess-control-allow-methods: GET, POST\r\naccess-control-allow-headers: accept, authorization, content-type\r\naccess-control-max-age: 3600\r\nvary: Origin, Access-Control-Request-Method, Access-Control-Request-Headers\r\ncontent-length: 0\r\n\r\n";
+    rust_lang_answers(&rt, (Verb::Options, &fields), text)
 }
 
 #[test]
@@ -191,11 +185,9 @@ fn no_rule_allows_an_origin(rt: HostRuntime) -> Result<(), Fail> {
         ("Origin", "https://a.example"),
         ("Access-Control-Request-Method", "POST"),
     ];
-    let parts = [
-        "B",
-        "content-length: 42\r\n\r\nOrigin is not allowed to make this request",
-    ];
-    rust_lang_answers(&rt, (Method::OPTIONS, &fields), &parts)
+    let text =
+        "HTTP/1.1 400 Bad Request\r\ncontent-length: 42\r\n\r\nOrigin is not allowed to make this request";
+    rust_lang_answers(&rt, (Verb::Options, &fields), text)
 }
 
 fn has_error(cors: &Built, error: Option<ConfigError>) -> Result<bool, AllocError> {
@@ -322,32 +314,22 @@ fn what_a_builder_takes_is_written(rt: HostRuntime) -> Result<(), Fail> {
         Credentials,
         NoVary,
     ];
-    let parts = [
-        "R",
-        "T",
-        "access-control-allow-origin: https://a.example\r\n",
-        "access-control-expose-headers: x-a, x-b\r\naccess-control-allow-credentials: true\r\n",
-        "H",
-    ];
+    let text =
+        "HTTP/1.1 200 OK\r\ncontent-type: text/plain\r\naccess-control-allow-origin: https://a.example\r\naccess-control-expose-headers: x-a, x-b\r\naccess-control-allow-credentials: true\r\ncontent-length: 12\r\n\r\nHello world!";
     let fields = [("Origin", "https://a.example")];
-    answers(&rt, &calls, (Method::GET, &fields), &parts)
+    answers(&rt, &calls, (Verb::Get, &fields), text)
 }
 
 #[test]
 fn the_service_itself_answers_a_preflight(rt: HostRuntime) -> Result<(), Fail> {
-    let parts = [
-        "R",
-        "T",
-        "access-control-expose-headers: content-type\r\n",
-        "V",
-        "H",
-    ];
+    let text =
+        "HTTP/1.1 200 OK\r\ncontent-type: text/plain\r\naccess-control-expose-headers: content-type\r\nvary: Origin, Access-Control-Request-Method, Access-Control-Request-Headers\r\ncontent-length: 12\r\n\r\nHello world!";
     let fields = [("Access-Control-Request-Method", "GET")];
     answers(
         &rt,
         &[ExposeAny, NoPreflight],
-        (Method::OPTIONS, &fields),
-        &parts,
+        (Verb::Options, &fields),
+        text,
     )
 }
 
@@ -358,8 +340,8 @@ const PUT: [(&str, &str); 3] = [
     ("Access-Control-Request-Headers", "x-any"),
 ];
 
-fn is_preflight(alloc: Global, method: Method) -> Result<bool, AllocError> {
-    match head(alloc, (method, &PUT)) {
+fn is_preflight(alloc: Global, verb: Verb) -> Result<bool, AllocError> {
+    match head(alloc, (verb, &PUT)) {
         Ok(head) => {
             let shown = Policy::<NoRule>::is_request_preflight(&head);
             drop(head);
@@ -375,8 +357,8 @@ fn a_preflight_goes_by_options(rt: HostRuntime) -> Result<(), Fail> {
     hold(
         &rt,
         &[
-            is_preflight(alloc, Method::OPTIONS),
-            not(is_preflight(alloc, Method::GET)),
+            is_preflight(alloc, Verb::Options),
+            not(is_preflight(alloc, Verb::Get)),
         ],
     )
 }
@@ -444,7 +426,7 @@ fn copy_says(
 #[test]
 fn a_copy_of_a_policy_is_asked(rt: HostRuntime) -> Result<(), Fail> {
     let checks = (Ok(true), Ok(()), Ok(()));
-    let asked = (Method::OPTIONS, PUT.as_slice());
+    let asked = (Verb::Options, PUT.as_slice());
     holds(
         &rt,
         copy_says(
@@ -485,7 +467,7 @@ fn has_config_error(alloc: Global, calls: &[Call]) -> Result<bool, AllocError> {
 #[test]
 fn no_rule_and_no_error(rt: HostRuntime) -> Result<(), Fail> {
     let alloc = rt.alloc();
-    let asked = (Method::GET, PUT.as_slice());
+    let asked = (Verb::Get, PUT.as_slice());
     hold(
         &rt,
         &[
@@ -706,25 +688,32 @@ fn and_host(cors: Cors<NoRule>, host: &Result<String, AllocError>) -> Built {
     }
 }
 
+fn with_host(alloc: Global, cors: Cors<NoRule>, k: u32) -> Built {
+    let host = host(alloc, k);
+    let cors = and_host(cors, &host);
+    drop(host);
+    cors
+}
+
 fn many_origins(alloc: Global) -> Built {
     let mut cors = Cors::default(alloc);
     for k in 0..1000 {
-        cors = and_host(cors, &host(alloc, k))?;
+        cors = with_host(alloc, cors, k)?;
     }
     Ok(cors)
 }
 
-// Whether the builder has no error, and these parts answer a request.
+// Whether the builder has no error, and this text answers a request.
 fn has_no_error_and_gives(
     task: &MockTask,
     alloc: Global,
     cors: &Cors<NoRule>,
     asked: Asked,
-    parts: &[&str],
+    text: &str,
 ) -> Result<bool, AllocError> {
     every(&[
         Ok(cors.error().is_none()),
-        is_answered(task, alloc, cors, asked, parts),
+        is_answered(task, alloc, cors, asked, text),
     ])
 }
 
@@ -733,10 +722,10 @@ fn has_no_error_and_gives_under(
     alloc: Global,
     cors: &Built,
     asked: Asked,
-    parts: &[&str],
+    text: &str,
 ) -> Result<bool, AllocError> {
     match cors {
-        Ok(cors) => has_no_error_and_gives(task, alloc, cors, asked, parts),
+        Ok(cors) => has_no_error_and_gives(task, alloc, cors, asked, text),
         Err(error) => Err(*error),
     }
 }
@@ -745,21 +734,21 @@ fn many_origins_give(
     task: &MockTask,
     alloc: Global,
     asked: Asked,
-    parts: &[&str],
+    text: &str,
 ) -> Result<bool, AllocError> {
     let cors = many_origins(alloc);
-    let shown = has_no_error_and_gives_under(task, alloc, &cors, asked, parts);
+    let shown = has_no_error_and_gives_under(task, alloc, &cors, asked, text);
     drop(cors);
     shown
 }
 
-// A thousand origins are taken without an error, and these parts then answer a request.
-fn many_origins_answer<R>(rt: &R, asked: Asked, parts: &[&str]) -> Result<(), Fail>
+// A thousand origins are taken without an error, and this text then answers a request.
+fn many_origins_answer<R>(rt: &R, asked: Asked, text: &str) -> Result<(), Fail>
 where
     R: RandomSource + AllocGlobal + Abort,
 {
     let task = MockTask::new(rt)?;
-    let shown = many_origins_give(&task, rt.alloc(), asked, parts);
+    let shown = many_origins_give(&task, rt.alloc(), asked, text);
     drop(task);
     holds(rt, shown)
 }
@@ -767,19 +756,15 @@ where
 #[test]
 fn the_last_of_a_thousand_origins_is_granted(rt: HostRuntime) -> Result<(), Fail> {
     let fields = [("Origin", "https://host-999.example")];
-    let parts = [
-        "R",
-        "T",
-        "access-control-allow-origin: https://host-999.example\r\n",
-        "V",
-        "H",
-    ];
-    many_origins_answer(&rt, (Method::GET, &fields), &parts)
+    let text =
+        "HTTP/1.1 200 OK\r\ncontent-type: text/plain\r\naccess-control-allow-origin: https://host-999.example\r\nvary: Origin, Access-Control-Request-Method, Access-Control-Request-Headers\r\ncontent-length: 12\r\n\r\nHello world!";
+    many_origins_answer(&rt, (Verb::Get, &fields), text)
 }
 
 #[test]
 fn none_beyond_a_thousand_origins_is_granted(rt: HostRuntime) -> Result<(), Fail> {
     let fields = [("Origin", "https://host-1000.example")];
-    let parts = ["R", "T", "V", "H"];
-    many_origins_answer(&rt, (Method::GET, &fields), &parts)
+    let text =
+        "HTTP/1.1 200 OK\r\ncontent-type: text/plain\r\nvary: Origin, Access-Control-Request-Method, Access-Control-Request-Headers\r\ncontent-length: 12\r\n\r\nHello world!";
+    many_origins_answer(&rt, (Verb::Get, &fields), text)
 }

@@ -1,11 +1,10 @@
 //! Worked requests, after the tests and the documents of the crate actix-cors.
-use crate::asking::{Asked, answers};
+use crate::asking::{Asked, Verb, answers};
 use crate::building::Call;
 use crate::building::Call::{
     Age, AnyHeader, AnyMethod, AnyOrigin, Block, Header, Headers, Methods, Origin, Permissive,
     Wildcard,
 };
-use http::method::Method;
 use std::alloc::AllocGlobal;
 use std::process::Abort;
 use std::random::RandomSource;
@@ -14,16 +13,9 @@ use std::test::Fail;
 #[test]
 fn everything_is_allowed(rt: HostRuntime) -> Result<(), Fail> {
     let fields = [("Origin", "https://a.example")];
-    let parts = [
-        "R",
-        "T",
-        "access-control-allow-origin: https://a.example\r\n",
-        "access-control-expose-headers: access-control-allow-origin, content-type\r\n",
-        "access-control-allow-credentials: true\r\n",
-        "V",
-        "H",
-    ];
-    answers(&rt, &[Permissive], (Method::GET, &fields), &parts)
+    let text =
+        "HTTP/1.1 200 OK\r\ncontent-type: text/plain\r\naccess-control-allow-origin: https://a.example\r\naccess-control-expose-headers: access-control-allow-origin, content-type\r\naccess-control-allow-credentials: true\r\nvary: Origin, Access-Control-Request-Method, Access-Control-Request-Headers\r\ncontent-length: 12\r\n\r\nHello world!";
+    answers(&rt, &[Permissive], (Verb::Get, &fields), text)
 }
 
 // Every origin, as `*`, three methods and three headers.
@@ -36,11 +28,11 @@ const WILDCARD: [Call; 6] = [
     Header("content-type"),
 ];
 
-fn answers_by_wildcard<R>(rt: &R, asked: Asked, parts: &[&str]) -> Result<(), Fail>
+fn answers_by_wildcard<R>(rt: &R, asked: Asked, text: &str) -> Result<(), Fail>
 where
     R: RandomSource + AllocGlobal + Abort,
 {
-    answers(rt, &WILDCARD, asked, parts)
+    answers(rt, &WILDCARD, asked, text)
 }
 
 #[test]
@@ -50,14 +42,9 @@ fn a_preflight_with_a_wildcard(rt: HostRuntime) -> Result<(), Fail> {
         ("Access-Control-Request-Method", "POST"),
         ("Access-Control-Request-Headers", "AUTHORIZATION,ACCEPT"),
     ];
-    let parts = [
-        "R",
-        "access-control-allow-origin: *\r\naccess-control-allow-methods: GET, OPTIONS, POST\r\n",
-        "access-control-allow-headers: accept, authorization, content-type\r\naccess-control-max-age: 3600\r\n",
-        "V",
-        "0",
-    ];
-    answers_by_wildcard(&rt, (Method::OPTIONS, &fields), &parts)
+    let text =
+        "HTTP/1.1 200 OK\r\naccess-control-allow-origin: *\r\naccess-control-allow-methods: GET, OPTIONS, POST\r\naccess-control-allow-headers: accept, authorization, content-type\r\naccess-control-max-age: 3600\r\nvary: Origin, Access-Control-Request-Method, Access-Control-Request-Headers\r\ncontent-length: 0\r\n\r\n";
+    answers_by_wildcard(&rt, (Verb::Options, &fields), text)
 }
 
 #[test]
@@ -66,11 +53,9 @@ fn a_preflight_for_another_method(rt: HostRuntime) -> Result<(), Fail> {
         ("Origin", "https://www.example.com"),
         ("Access-Control-Request-Method", "put"),
     ];
-    let parts = [
-        "B",
-        "content-length: 31\r\n\r\nRequested method is not allowed",
-    ];
-    answers_by_wildcard(&rt, (Method::OPTIONS, &fields), &parts)
+    let text =
+        "HTTP/1.1 400 Bad Request\r\ncontent-length: 31\r\n\r\nRequested method is not allowed";
+    answers_by_wildcard(&rt, (Verb::Options, &fields), text)
 }
 
 #[test]
@@ -79,48 +64,42 @@ fn a_request_that_asks_for_no_method_is_no_preflight(rt: HostRuntime) -> Result<
         ("Origin", "https://www.example.com"),
         ("Access-Control-Request-Headers", "X-Not-Allowed"),
     ];
-    let parts = ["R", "T", "access-control-allow-origin: *\r\n", "V", "H"];
-    answers_by_wildcard(&rt, (Method::OPTIONS, &fields), &parts)
+    let text =
+        "HTTP/1.1 200 OK\r\ncontent-type: text/plain\r\naccess-control-allow-origin: *\r\nvary: Origin, Access-Control-Request-Method, Access-Control-Request-Headers\r\ncontent-length: 12\r\n\r\nHello world!";
+    answers_by_wildcard(&rt, (Verb::Options, &fields), text)
 }
 
 // One origin, and all others are refused.
 const BLOCKING: [Call; 2] = [Origin("https://a.example"), Block];
 
-fn answers_blocking<R>(rt: &R, asked: Asked, parts: &[&str]) -> Result<(), Fail>
+fn answers_blocking<R>(rt: &R, asked: Asked, text: &str) -> Result<(), Fail>
 where
     R: RandomSource + AllocGlobal + Abort,
 {
-    answers(rt, &BLOCKING, asked, parts)
+    answers(rt, &BLOCKING, asked, text)
 }
 
 #[test]
 fn a_request_without_an_origin_is_not_blocked(rt: HostRuntime) -> Result<(), Fail> {
-    let parts = ["R", "T", "V", "H"];
-    answers_blocking(&rt, (Method::GET, &[]), &parts)
+    let text =
+        "HTTP/1.1 200 OK\r\ncontent-type: text/plain\r\nvary: Origin, Access-Control-Request-Method, Access-Control-Request-Headers\r\ncontent-length: 12\r\n\r\nHello world!";
+    answers_blocking(&rt, (Verb::Get, &[]), text)
 }
 
 #[test]
 fn another_origin_is_blocked(rt: HostRuntime) -> Result<(), Fail> {
     let fields = [("Origin", "https://b.example")];
-    let parts = [
-        "B",
-        "V",
-        "content-length: 42\r\n\r\nOrigin is not allowed to make this request",
-    ];
-    answers_blocking(&rt, (Method::GET, &fields), &parts)
+    let text =
+        "HTTP/1.1 400 Bad Request\r\nvary: Origin, Access-Control-Request-Method, Access-Control-Request-Headers\r\ncontent-length: 42\r\n\r\nOrigin is not allowed to make this request";
+    answers_blocking(&rt, (Verb::Get, &fields), text)
 }
 
 #[test]
 fn an_allowed_origin_is_not_blocked(rt: HostRuntime) -> Result<(), Fail> {
     let fields = [("Origin", "https://a.example")];
-    let parts = [
-        "R",
-        "T",
-        "access-control-allow-origin: https://a.example\r\n",
-        "V",
-        "H",
-    ];
-    answers_blocking(&rt, (Method::GET, &fields), &parts)
+    let text =
+        "HTTP/1.1 200 OK\r\ncontent-type: text/plain\r\naccess-control-allow-origin: https://a.example\r\nvary: Origin, Access-Control-Request-Method, Access-Control-Request-Headers\r\ncontent-length: 12\r\n\r\nHello world!";
+    answers_blocking(&rt, (Verb::Get, &fields), text)
 }
 
 const ASKED: [(&str, &str); 3] = [
@@ -129,33 +108,25 @@ const ASKED: [(&str, &str); 3] = [
     ("Access-Control-Request-Headers", "a,,b"),
 ];
 
-fn answers_asked<R>(rt: &R, calls: &[Call], parts: &[&str]) -> Result<(), Fail>
+fn answers_asked<R>(rt: &R, calls: &[Call], text: &str) -> Result<(), Fail>
 where
     R: RandomSource + AllocGlobal + Abort,
 {
-    answers(rt, calls, (Method::OPTIONS, &ASKED), parts)
+    answers(rt, calls, (Verb::Options, &ASKED), text)
 }
 
 #[test]
 fn an_empty_name_is_asked_for(rt: HostRuntime) -> Result<(), Fail> {
     let calls = [AnyOrigin, AnyMethod, Headers(&["a"])];
-    let parts = [
-        "B",
-        "content-length: 68\r\n\r\nRequest header `Access-Control-Request-Headers` has an invalid value",
-    ];
-    answers_asked(&rt, &calls, &parts)
+    let text =
+        "HTTP/1.1 400 Bad Request\r\ncontent-length: 68\r\n\r\nRequest header `Access-Control-Request-Headers` has an invalid value";
+    answers_asked(&rt, &calls, text)
 }
 
 #[test]
 fn asked_headers_are_echoed(rt: HostRuntime) -> Result<(), Fail> {
     let calls = [AnyOrigin, AnyMethod, AnyHeader];
-    let parts = [
-        "R",
-        "access-control-allow-origin: https://a.example\r\n",
-        "access-control-allow-methods: CONNECT, DELETE, GET, HEAD, OPTIONS, PATCH, POST, PUT, TRACE\r\n",
-        "access-control-allow-headers: a,,b\r\n",
-        "V",
-        "0",
-    ];
-    answers_asked(&rt, &calls, &parts)
+    let text =
+        "HTTP/1.1 200 OK\r\naccess-control-allow-origin: https://a.example\r\naccess-control-allow-methods: CONNECT, DELETE, GET, HEAD, OPTIONS, PATCH, POST, PUT, TRACE\r\naccess-control-allow-headers: a,,b\r\nvary: Origin, Access-Control-Request-Method, Access-Control-Request-Headers\r\ncontent-length: 0\r\n\r\n";
+    answers_asked(&rt, &calls, text)
 }

@@ -12,13 +12,23 @@ fn insert(set: &mut TextSet, alloc: Global, name: &str) -> Result<(), AllocError
     }
 }
 
+fn insert_all(set: &mut TextSet, alloc: Global, names: &[&str]) -> Result<(), AllocError> {
+    for name in names {
+        insert(set, alloc, name)?;
+    }
+    Ok(())
+}
+
 // The names, in a row.
 fn searched(alloc: Global, names: &[&str]) -> Result<TextSet, AllocError> {
     let mut set = TextSet::new(alloc);
-    for name in names {
-        insert(&mut set, alloc, name)?;
+    match insert_all(&mut set, alloc, names) {
+        Ok(()) => set.in_row(),
+        Err(error) => {
+            drop(set);
+            Err(error)
+        }
     }
-    set.in_row()
 }
 
 // How many of the names are members, in lower case.
@@ -41,7 +51,11 @@ fn members(alloc: Global) -> Result<TextSet, AllocError> {
 // Whether so many of the names are found in the row.
 fn finds(alloc: Global, names: &[&str], wanted: usize) -> Result<bool, AllocError> {
     match members(alloc) {
-        Ok(set) => Ok(count(&set, names) == wanted),
+        Ok(set) => {
+            let shown = count(&set, names) == wanted;
+            drop(set);
+            Ok(shown)
+        }
         Err(error) => Err(error),
     }
 }

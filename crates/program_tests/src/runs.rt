@@ -1,5 +1,5 @@
 //! Runs of the program by words that are no form, and of each call of a source or a sink that fails.
-use crate::shown::{every, hold, holds};
+use crate::shown::{hold, holds};
 use server_program::{MemorySink, MemorySource, run};
 use server_run::Host;
 use service_core::Octets;
@@ -66,96 +66,141 @@ pub(crate) fn sink_of(alloc: Global, room: usize, write: u64) -> Result<MemorySi
     }
 }
 
-// The status of a run that had enough memory, and what the sink got.
-fn told(alloc: Global, status: u8, got: &[u8]) -> Result<(u8, Octets), AllocError> {
+/// What a run has: the words of its command line, its source and its sink.
+#[derive(Drop)]
+struct Parts {
+    said: Vec<Octets>,
+    source: MemorySource,
+    sink: MemorySink,
+}
+
+fn with_sink(
+    said: Vec<Octets>,
+    source: MemorySource,
+    sink: Result<MemorySink, AllocError>,
+) -> Result<Parts, AllocError> {
+    match sink {
+        Ok(sink) => Ok(Parts { said, source, sink }),
+        Err(error) => {
+            drop(said);
+            drop(source);
+            Err(error)
+        }
+    }
+}
+
+fn with_source(
+    said: Vec<Octets>,
+    source: Result<MemorySource, AllocError>,
+    sink: Result<MemorySink, AllocError>,
+) -> Result<Parts, AllocError> {
+    match source {
+        Ok(source) => with_sink(said, source, sink),
+        Err(error) => {
+            drop(said);
+            drop(sink);
+            Err(error)
+        }
+    }
+}
+
+/// A run, and how it ends: its status, and what the sink got where that is told.
+#[derive(Clone, Copy)]
+struct Row<'a> {
+    words: &'a [&'a str],
+    script: &'a [u8],
+    faults: Faults,
+    status: u8,
+    got: Option<&'a str>,
+}
+
+fn parts_of(alloc: Global, row: Row) -> Result<Parts, AllocError> {
+    let source = source_of(alloc, row.script, row.faults.read);
+    let sink = sink_of(alloc, row.faults.room, row.faults.write);
+    match said(alloc, row.words) {
+        Ok(said) => with_source(said, source, sink),
+        Err(error) => {
+            drop(source);
+            drop(sink);
+            Err(error)
+        }
+    }
+}
+
+fn is_got(got: &[u8], wanted: Option<&str>) -> bool {
+    match wanted {
+        Some(text) => got == text.as_bytes(),
+        None => true,
+    }
+}
+
+// Whether a run with this status ends as told, where it had enough memory.
+fn is_end(row: Row, status: u8, got: &[u8]) -> Result<bool, AllocError> {
     if status == 7 || got.starts_with(b"out of mem".as_slice()) {
         return Err(AllocError);
     }
-    Ok((status, Octets::of(alloc, got)?))
+    Ok(status == row.status && is_got(got, row.got))
 }
 
-fn status_of<Ho: Host>(
-    rt: &Ho,
-    alloc: Global,
-    words: &[&str],
-    source: &mut MemorySource,
-    sink: &mut MemorySink,
-) -> Result<u8, AllocError> {
-    match said(alloc, words) {
-        Ok(said) => Ok(run(rt, alloc, &said, source, sink)),
-        Err(error) => Err(error),
-    }
+fn status_of<Ho: Host>(rt: &Ho, alloc: Global, parts: &mut Parts) -> u8 {
+    run(rt, alloc, &parts.said, &mut parts.source, &mut parts.sink)
 }
 
-fn replayed_between<Ho: Host>(
-    rt: &Ho,
-    alloc: Global,
-    words: &[&str],
-    source: &mut MemorySource,
-    sink: &mut MemorySink,
-) -> Result<(u8, Octets), AllocError> {
-    match status_of(rt, alloc, words, source, sink) {
-        Ok(status) => told(alloc, status, sink.got()),
-        Err(error) => Err(error),
-    }
-}
-
-fn replayed_from<Ho: Host>(
-    rt: &Ho,
-    alloc: Global,
-    words: &[&str],
-    source: &mut MemorySource,
-    faults: Faults,
-) -> Result<(u8, Octets), AllocError> {
-    match sink_of(alloc, faults.room, faults.write) {
-        Ok(mut sink) => replayed_between(rt, alloc, words, source, &mut sink),
-        Err(error) => Err(error),
-    }
-}
-
-// The status of a run, and what the sink got.
-fn replayed<Ho: Host + AllocGlobal>(
-    rt: &Ho,
-    words: &[&str],
-    script: &[u8],
-    faults: Faults,
-) -> Result<(u8, Octets), AllocError> {
+// Whether the run ends as told.
+fn ends<Ho: Host + AllocGlobal>(rt: &Ho, row: Row) -> Result<bool, AllocError> {
     let alloc = rt.alloc();
-    match source_of(alloc, script, faults.read) {
-        Ok(mut source) => replayed_from(rt, alloc, words, &mut source, faults),
+    match parts_of(alloc, row) {
+        Ok(mut parts) => {
+            let status = status_of(rt, alloc, &mut parts);
+            let shown = is_end(row, status, parts.sink.got());
+            drop(parts);
+            shown
+        }
         Err(error) => Err(error),
     }
 }
 
-fn is_end(told: &(u8, Octets), wanted: (u8, &str)) -> bool {
-    told.0 == wanted.0 && told.1.as_bytes() == wanted.1.as_bytes()
+// Whether each run ends as told.
+fn all_end<Ho: Host + AllocGlobal>(rt: &Ho, rows: &[Row]) -> Result<bool, AllocError> {
+    for row in rows {
+        if !ends(rt, *row)? {
+            return Ok(false);
+        }
+    }
+    Ok(true)
 }
 
-// Whether a run of these words ends with the status and the text.
-fn ends<Ho: Host + AllocGlobal>(
-    rt: &Ho,
-    words: &[&str],
-    faults: Faults,
-    wanted: (u8, &str),
-) -> Result<bool, AllocError> {
-    match replayed(rt, words, b"listener", faults) {
-        Ok(told) => Ok(is_end(&told, wanted)),
-        Err(error) => Err(error),
+// The run of a listener alone by these words, and how it ends.
+fn of_listener<'a>(words: &'a [&'a str], faults: Faults, wanted: (u8, &'a str)) -> Row<'a> {
+    Row {
+        words,
+        script: b"listener",
+        faults,
+        status: wanted.0,
+        got: Some(wanted.1),
     }
 }
 
 const USAGE: &str = "usage: replay | listen ADDR N | generate N K\n";
+
+fn of_no_form<'a>(words: &'a [&'a str]) -> Row<'a> {
+    of_listener(words, none(), (2, USAGE))
+}
 
 #[test]
 fn words_that_are_no_form_are_answered_with_the_usage(rt: HostRuntime) -> Result<(), Fail> {
     hold(
         &rt,
         &[
-            ends(&rt, &["replay", "now"], none(), (2, USAGE)),
-            ends(&rt, &[], none(), (2, USAGE)),
-            ends(&rt, &["--help"], none(), (2, USAGE)),
+            ends(&rt, of_no_form(&["replay", "now"])),
+            ends(&rt, of_no_form(&[])),
+            ends(&rt, of_no_form(&["--help"])),
         ],
     )
+}
+
+fn of_replay<'a>(faults: Faults, wanted: (u8, &'a str)) -> Row<'a> {
+    of_listener(&["replay"], faults, wanted)
 }
 
 #[test]
@@ -163,8 +208,8 @@ fn a_read_that_fails_and_a_write_that_fails_are_told_apart(rt: HostRuntime) -> R
     hold(
         &rt,
         &[
-            ends(&rt, &["replay"], fails(1, NEVER), (5, "read failed\n")),
-            ends(&rt, &["replay"], fails(NEVER, 0), (6, "")),
+            ends(&rt, of_replay(fails(1, NEVER), (5, "read failed\n"))),
+            ends(&rt, of_replay(fails(NEVER, 0), (6, ""))),
         ],
     )
 }
@@ -176,59 +221,56 @@ fn a_sink_with_too_little_room_gets_the_front_of_the_text(rt: HostRuntime) -> Re
         write: NEVER,
         room: 10,
     };
-    holds(&rt, ends(&rt, &["replay"], ten, (6, "listener 0")))
+    holds(&rt, ends(&rt, of_replay(ten, (6, "listener 0"))))
 }
 
 const GET: &[u8] =
     b"listener\nconn local\ngive \\x47\\x45\\x54\\x20\\x2f\\x20\\x48\\x54\\x54\\x50\\x2f\\x31\\x2e\\x31\\x0d\\x0a\\x48\\x6f\\x73\\x74\\x3a\\x20\\x61\\x0d\\x0a\\x0d\\x0a";
 
-// Whether the run of a GET whose source fails at this call, and whose sink fails at that one, ends with the status.
-fn has_status<Ho: Host + AllocGlobal>(
-    rt: &Ho,
-    read: u64,
-    write: u64,
-    wanted: u8,
-) -> Result<bool, AllocError> {
-    match replayed(rt, &["replay"], GET, fails(read, write)) {
-        Ok(told) => Ok(told.0 == wanted),
-        Err(error) => Err(error),
+// The run of a GET whose source fails at this call, and whose sink fails at that one, and its status.
+fn of_get(read: u64, write: u64, status: u8) -> Row<'static> {
+    Row {
+        words: &["replay"],
+        script: GET,
+        faults: fails(read, write),
+        status,
+        got: None,
     }
 }
 
-// Whether each of six reads that fails is told. One read gives the script, and one more finds its end.
-fn tells_reads<Ho: Host + AllocGlobal>(rt: &Ho) -> Result<bool, AllocError> {
-    for call in 0..6 {
-        let wanted = if call < 2 { 5 } else { 0 };
-        if !has_status(rt, call, NEVER, wanted)? {
-            return Ok(false);
-        }
-    }
-    Ok(true)
+// Each of six reads fails. One read gives the script, and one more finds its end.
+fn failing_reads() -> [Row<'static>; 6] {
+    [
+        of_get(0, NEVER, 5),
+        of_get(1, NEVER, 5),
+        of_get(2, NEVER, 0),
+        of_get(3, NEVER, 0),
+        of_get(4, NEVER, 0),
+        of_get(5, NEVER, 0),
+    ]
 }
 
 #[test]
 fn each_read_that_fails_is_told(rt: HostRuntime) -> Result<(), Fail> {
-    holds(&rt, tells_reads(&rt))
+    holds(&rt, all_end(&rt, &failing_reads()))
 }
 
-// Whether each of four writes that fails is told, where no read fails and where the first one does. One write takes
-// the whole report, and one the text of a read that failed.
-fn tells_writes<Ho: Host + AllocGlobal>(rt: &Ho) -> Result<bool, AllocError> {
-    for call in 0..4 {
-        let whole = if call == 0 { 6 } else { 0 };
-        let failed = if call == 0 { 6 } else { 5 };
-        let are_told = every(&[
-            has_status(rt, NEVER, call, whole),
-            has_status(rt, 0, call, failed),
-        ]);
-        if !are_told? {
-            return Ok(false);
-        }
-    }
-    Ok(true)
+// Each of four writes fails, where no read fails and where the first one does. One write takes the whole report, and one
+// the text of a read that failed.
+fn failing_writes() -> [Row<'static>; 8] {
+    [
+        of_get(NEVER, 0, 6),
+        of_get(0, 0, 6),
+        of_get(NEVER, 1, 0),
+        of_get(0, 1, 5),
+        of_get(NEVER, 2, 0),
+        of_get(0, 2, 5),
+        of_get(NEVER, 3, 0),
+        of_get(0, 3, 5),
+    ]
 }
 
 #[test]
 fn each_write_that_fails_is_told(rt: HostRuntime) -> Result<(), Fail> {
-    holds(&rt, tells_writes(&rt))
+    holds(&rt, all_end(&rt, &failing_writes()))
 }

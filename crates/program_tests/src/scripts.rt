@@ -116,12 +116,10 @@ fn connects_by(
 
 // Whether the connection with the line holds these bytes.
 fn is_held(alloc: Global, line: &str, wanted: &[u8]) -> Result<bool, AllocError> {
-    connects_by(
-        alloc,
-        &joined(alloc, b"listener\nconn local\n", line),
-        Peer::Local,
-        wanted,
-    )
+    let text = joined(alloc, b"listener\nconn local\n", line);
+    let shown = connects_by(alloc, &text, Peer::Local, wanted);
+    drop(text);
+    shown
 }
 
 // Whether each line gives its bytes.
@@ -141,7 +139,10 @@ fn each_escape_stands_for_its_byte(rt: HostRuntime) -> Result<(), Fail> {
 
 // Whether the text in a `conn` line names the peer.
 fn is_named(alloc: Global, text: &str, peer: Peer) -> Result<bool, AllocError> {
-    connects_by(alloc, &joined(alloc, b"listener\nconn ", text), peer, b"")
+    let text = joined(alloc, b"listener\nconn ", text);
+    let shown = connects_by(alloc, &text, peer, b"");
+    drop(text);
+    shown
 }
 
 // The peer of an address and a port.
@@ -249,7 +250,11 @@ fn origin_lines_make_a_policy(rt: HostRuntime) -> Result<(), Fail> {
 // Whether a plain text is made of these bytes, and is this text.
 fn is_plain_text(alloc: Global, text: &str) -> Result<bool, AllocError> {
     match PlainText::of(alloc, b" a~") {
-        Ok(plain) => Ok(plain.as_str() == text),
+        Ok(plain) => {
+            let shown = plain.as_str() == text;
+            drop(plain);
+            Ok(shown)
+        }
         Err(error) => Err(error),
     }
 }

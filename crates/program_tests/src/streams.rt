@@ -26,7 +26,11 @@ fn reads_six(source: &mut MemorySource) -> Result<bool, AllocError> {
 // Whether six bytes are read from a source whose second read fails.
 fn six_are_read(alloc: Global) -> Result<bool, AllocError> {
     match source_of(alloc, b"abcdef", 1) {
-        Ok(mut source) => reads_six(&mut source),
+        Ok(mut source) => {
+            let shown = reads_six(&mut source);
+            drop(source);
+            shown
+        }
         Err(error) => Err(error),
     }
 }
@@ -55,13 +59,20 @@ fn is_read_of(
     bytes: &[u8],
     whole: bool,
 ) -> Result<bool, AllocError> {
-    is_whole(&read_whole(alloc, source), bytes, whole)
+    let read = read_whole(alloc, source);
+    let shown = is_whole(&read, bytes, whole);
+    drop(read);
+    shown
 }
 
 // Whether a source whose read of this number fails is read whole, or not at all.
 fn is_read(alloc: Global, bytes: &[u8], fail: u64, whole: bool) -> Result<bool, AllocError> {
     match source_of(alloc, bytes, fail) {
-        Ok(mut source) => is_read_of(alloc, &mut source, bytes, whole),
+        Ok(mut source) => {
+            let shown = is_read_of(alloc, &mut source, bytes, whole);
+            drop(source);
+            shown
+        }
         Err(error) => Err(error),
     }
 }
@@ -76,7 +87,11 @@ fn reads_whole_or_not(alloc: Global, bytes: &[u8]) -> Result<bool, AllocError> {
 // Whether ten thousand bytes are read whole, or not at all.
 fn many_are_read(alloc: Global) -> Result<bool, AllocError> {
     match vec![in alloc; 7u8; 10_000] {
-        Ok(long) => reads_whole_or_not(alloc, &long),
+        Ok(long) => {
+            let shown = reads_whole_or_not(alloc, &long);
+            drop(long);
+            shown
+        }
         Err(error) => Err(error),
     }
 }
@@ -103,7 +118,11 @@ fn takes_five(sink: &mut MemorySink) -> Result<bool, AllocError> {
 // Whether a sink whose second write fails takes five bytes.
 fn five_are_taken(alloc: Global) -> Result<bool, AllocError> {
     match sink_of(alloc, 5, 1) {
-        Ok(mut sink) => takes_five(&mut sink),
+        Ok(mut sink) => {
+            let shown = takes_five(&mut sink);
+            drop(sink);
+            shown
+        }
         Err(error) => Err(error),
     }
 }
@@ -130,7 +149,11 @@ fn cuts_short(sink: &mut MemorySink) -> Result<bool, AllocError> {
 // Whether eight bytes of a text are taken.
 fn eight_are_taken(alloc: Global) -> Result<bool, AllocError> {
     match MemorySink::new(alloc, 8, Vec::new(alloc)) {
-        Ok(mut sink) => cuts_short(&mut sink),
+        Ok(mut sink) => {
+            let shown = cuts_short(&mut sink);
+            drop(sink);
+            shown
+        }
         Err(error) => Err(error),
     }
 }

@@ -18,7 +18,11 @@ fn said(alloc: Global, words: &[&str]) -> Result<Vec<Octets>, AllocError> {
 // Whether these words are the form.
 fn are_replay(alloc: Global, words: &[&str]) -> Result<bool, AllocError> {
     match said(alloc, words) {
-        Ok(words) => Ok(is_replay(&words)),
+        Ok(words) => {
+            let shown = is_replay(&words);
+            drop(words);
+            Ok(shown)
+        }
         Err(error) => Err(error),
     }
 }
@@ -40,7 +44,11 @@ fn only_the_one_word_replay_is_replay(rt: HostRuntime) -> Result<(), Fail> {
 // Whether a peer in words is this text.
 fn is_told(alloc: Global, peer: Peer, text: &[u8]) -> Result<bool, AllocError> {
     match peer_text(alloc, peer) {
-        Ok(told) => Ok(told.as_bytes() == text),
+        Ok(told) => {
+            let shown = told.as_bytes() == text;
+            drop(told);
+            Ok(shown)
+        }
         Err(error) => Err(error),
     }
 }
