@@ -16,7 +16,7 @@ use Rattle.service_combine.specs.declared.apply_config_factory.ApplyConfigServic
 use Rattle.service_combine.specs.declared.config_stage.ConfigStage.{ConfigStage}
 use Rattle.service_combine.specs.declared.config_stage.ConfigStage.TheVariants.{First, Second, Refused, Done}
 use Rattle.service_combine.specs.declared.made_ready.MadeReady.{MadeReady}
-use Rattle.service_combine.specs.declared.made_ready.MadeReady.TheVariants.{Making, Readying, Done as Given}
+use Rattle.service_combine.specs.declared.made_ready.MadeReady.TheVariants.{Making, Readying}
 use denote.Ref.{Bor}
 
 -- a service of P that may be ready, an error of P, or an error turned from one that such a service's readiness may answer
@@ -62,11 +62,8 @@ ThroughService P gives answers (Err e) = P (Err e) ⊎ OfOk P (λ s. Follows (an
 abbrev pub ReadyWaited : {X S Q : Type 0} → MadeReady X S Q → MadeReady X S Q → Type 0
 ReadyWaited (Making old) (Making new) = Rose old.waits new.waits
 ReadyWaited (Making old) (Readying new) = Rose 0 new.waits
-ReadyWaited (Making old) Given = ⊥
 ReadyWaited (Readying old) (Making new) = ⊥
 ReadyWaited (Readying old) (Readying new) = Rose old.waits new.waits
-ReadyWaited (Readying old) Given = ⊥
-ReadyWaited Given new = ⊥
 
 abbrev pub ConfigWaited : {X S Q C P Y : Type 0} → ConfigStage X S Q C P Y → ConfigStage X S Q C P Y → Type 0
 ConfigWaited (First old c p) (First new d q) = ReadyWaited old new

@@ -1,12 +1,10 @@
-ghost use Rattle.std.specs.Prelude.{◌≡◌, ◌⊎◌, IfOk};
-ghost use Rattle.std.specs.Arc.{arc_value};
+ghost use Rattle.std.specs.Prelude.{◌≡◌, ◌⊎◌};
 ghost use Rattle.service_core.specs.Meaning.{Follows, GivesOnly, Through};
 ghost use Rattle.service_combine.specs.Equations.{AndThenMakes};
 ghost use Rattle.service_combine.specs.Readying.{BothReady};
 ghost use Rattle.service_combine.specs.Shown.{and_then_first_factory, and_then_second_factory};
 
 use crate::both::Both;
-use crate::half::Half;
 use crate::{AndThenService, AndThenServiceFactoryResponse, AndThenServiceResponse};
 use futures::Future;
 use service_core::{NoMemory, Service, ServiceFactory};
@@ -26,38 +24,18 @@ pub struct AndThenServiceFactory<A, B, Req> {
     pub(crate) request: PhantomData<Req>,
 }
 
-impl<A, B, Req> AndThenServiceFactory<A, B, Req>
-where
-    A: ServiceFactory<Req> + Drop,
-    B: ServiceFactory<A::Response, Config = A::Config, Error = A::Error, InitError = A::InitError>
-        + Drop,
-{
-    pub(crate) fn new(
-        alloc: Global,
-        first: A,
-        second: B,
-    ) -> Result<AndThenServiceFactory<A, B, Req>, AllocError>
-        ensures { IfOk result (λ f. arc_value f.parts ≡ (first, second)) }
-    {
-        let parts = Arc::new(alloc, (first, second))?;
-        Ok(AndThenServiceFactory {
-            parts,
-            alloc,
-            request: PhantomData,
-        })
-    }
-}
-
 impl<A: Drop, B: Drop, Req> Clone for AndThenServiceFactory<A, B, Req> {
     ghost is_clone = { λ f copy. (and_then_first_factory copy ≡ and_then_first_factory f) × (and_then_second_factory copy ≡ and_then_second_factory f) };
 
     fn clone(&self) -> Result<AndThenServiceFactory<A, B, Req>, AllocError> {
-        let parts = Arc::try_clone(&self.parts)?;
-        Ok(AndThenServiceFactory {
-            parts,
-            alloc: self.alloc,
-            request: PhantomData,
-        })
+        match Arc::try_clone(&self.parts) {
+            Ok(parts) => Ok(AndThenServiceFactory {
+                parts,
+                alloc: self.alloc,
+                request: PhantomData,
+            }),
+            Err(e) => Err(e),
+        }
     }
 }
 
@@ -106,10 +84,10 @@ where
     fn new_service(&self, cfg: A::Config) -> AndThenServiceFactoryResponse<A, B, Req> {
         match cfg.clone() {
             Ok(copy) => AndThenServiceFactoryResponse {
-                making: Both::Halves {
-                    first: Half::of(self.parts.0.new_service(copy)),
-                    second: Half::of(self.parts.1.new_service(cfg)),
-                },
+                making: Both::of(
+                    self.parts.0.new_service(copy),
+                    self.parts.1.new_service(cfg),
+                ),
                 alloc: self.alloc,
             },
             Err(_) => AndThenServiceFactoryResponse::refused(self.alloc),

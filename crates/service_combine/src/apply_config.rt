@@ -3,6 +3,7 @@ ghost use Rattle.service_combine.specs.Applying.{Answers, LentGives, MayBeLent};
 ghost use Rattle.service_combine.specs.Configuring.{GivesCallable, OfOk};
 ghost use Rattle.service_combine.specs.Shown.{apply_cfg_closure, apply_cfg_part};
 
+use crate::sharing::shared;
 use futures::Future;
 use service_core::{Service, ServiceFactory};
 use std::alloc::{AllocError, Global};
@@ -24,11 +25,13 @@ where
     S2: Service<Req>,
     ensures { IfOk result (λ a. (apply_cfg_part a ≡ srv) × (apply_cfg_closure a ≡ f)) }
 {
-    let srv = Arc::new(alloc, (srv, f))?;
-    Ok(ApplyConfigService {
-        srv,
-        types: PhantomData,
-    })
+    match shared(alloc, (srv, f)) {
+        Ok(srv) => Ok(ApplyConfigService {
+            srv,
+            types: PhantomData,
+        }),
+        Err(e) => Err(e),
+    }
 }
 
 /// Factory of `apply_cfg` (`actix_service::ApplyConfigService`).
@@ -45,11 +48,13 @@ impl<S1: Drop, Req, F: Drop, Cfg, Fut, S2, Err> Clone
     ghost is_clone = { λ a copy. (apply_cfg_part copy ≡ apply_cfg_part a) × (apply_cfg_closure copy ≡ apply_cfg_closure a) };
 
     fn clone(&self) -> Result<ApplyConfigService<S1, Req, F, Cfg, Fut, S2, Err>, AllocError> {
-        let srv = Arc::try_clone(&self.srv)?;
-        Ok(ApplyConfigService {
-            srv,
-            types: PhantomData,
-        })
+        match Arc::try_clone(&self.srv) {
+            Ok(srv) => Ok(ApplyConfigService {
+                srv,
+                types: PhantomData,
+            }),
+            Err(e) => Err(e),
+        }
     }
 }
 

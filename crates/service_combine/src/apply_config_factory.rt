@@ -8,6 +8,7 @@ ghost use Rattle.service_combine.specs.Staging.{MakesFrom, ReadyGives};
 use crate::ApplyConfigServiceFactoryResponse;
 use crate::config_stage::ConfigStage;
 use crate::made_ready::MadeReady;
+use crate::sharing::shared;
 use futures::Future;
 use service_core::{NoMemory, Service, ServiceFactory, Watched};
 use std::alloc::{AllocError, Global};
@@ -30,11 +31,13 @@ where
     S: Service<Req>,
     ensures { IfOk result (λ a. (apply_cfg_factory_part a ≡ factory) × (apply_cfg_factory_closure a ≡ f)) }
 {
-    let srv = Arc::new(alloc, (factory, f))?;
-    Ok(ApplyConfigServiceFactory {
-        srv,
-        types: PhantomData,
-    })
+    match shared(alloc, (factory, f)) {
+        Ok(srv) => Ok(ApplyConfigServiceFactory {
+            srv,
+            types: PhantomData,
+        }),
+        Err(e) => Err(e),
+    }
 }
 
 /// Factory of `apply_cfg_factory` (`actix_service::ApplyConfigServiceFactory`).
@@ -52,11 +55,13 @@ impl<SF: Drop, Req, F: Drop, Cfg, Fut, S> Clone
         × (apply_cfg_factory_closure copy ≡ apply_cfg_factory_closure a) };
 
     fn clone(&self) -> Result<ApplyConfigServiceFactory<SF, Req, F, Cfg, Fut, S>, AllocError> {
-        let srv = Arc::try_clone(&self.srv)?;
-        Ok(ApplyConfigServiceFactory {
-            srv,
-            types: PhantomData,
-        })
+        match Arc::try_clone(&self.srv) {
+            Ok(srv) => Ok(ApplyConfigServiceFactory {
+                srv,
+                types: PhantomData,
+            }),
+            Err(e) => Err(e),
+        }
     }
 }
 
@@ -107,7 +112,9 @@ where
         match Arc::try_clone(&self.srv) {
             Ok(parts) => ApplyConfigServiceFactoryResponse {
                 state: ConfigStage::First {
-                    making: MadeReady::of(self.srv.0.new_service(())),
+                    making: MadeReady::Making {
+                        future: Watched::new(self.srv.0.new_service(())),
+                    },
                     cfg,
                     parts,
                 },

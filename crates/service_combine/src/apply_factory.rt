@@ -7,6 +7,7 @@ ghost use Rattle.service_combine.specs.Shown.{apply_factory_closure, apply_facto
 
 use crate::copies::copies;
 use crate::making::Making;
+use crate::sharing::shared;
 use crate::{Apply, ApplyServiceFactoryResponse};
 use futures::Future;
 use service_core::{IntoServiceFactory, NoMemory, Service, ServiceFactory};
@@ -31,12 +32,14 @@ where
     ensures { IfOk result (λ a. I.turns_into service (apply_factory_part a) × (apply_factory_closure a ≡ f)) }
 {
     let factory = service.into_factory();
-    let wrap_fn = Arc::new(alloc, f)?;
-    Ok(ApplyFactory {
-        factory,
-        wrap_fn,
-        types: PhantomData,
-    })
+    match shared(alloc, f) {
+        Ok(wrap_fn) => Ok(ApplyFactory {
+            factory,
+            wrap_fn,
+            types: PhantomData,
+        }),
+        Err(e) => Err(e),
+    }
 }
 
 /// Factory of `apply_fn_factory`: its services are its factory's, wrapped as by `apply_fn` (`actix_service::ApplyFactory`).
@@ -52,12 +55,14 @@ impl<SF: Clone, F: Drop, Req, In, Res, Err> Clone for ApplyFactory<SF, F, Req, I
         × (apply_factory_closure copy ≡ apply_factory_closure a) };
 
     fn clone(&self) -> Result<ApplyFactory<SF, F, Req, In, Res, Err>, AllocError> {
-        let (factory, wrap_fn) = copies(&self.factory, &self.wrap_fn)?;
-        Ok(ApplyFactory {
-            factory,
-            wrap_fn,
-            types: PhantomData,
-        })
+        match copies(&self.factory, &self.wrap_fn) {
+            Ok((factory, wrap_fn)) => Ok(ApplyFactory {
+                factory,
+                wrap_fn,
+                types: PhantomData,
+            }),
+            Err(e) => Err(e),
+        }
     }
 }
 

@@ -5,6 +5,7 @@ ghost use Rattle.service_combine.specs.Same.{MeansSame, TakesSame};
 ghost use Rattle.service_combine.specs.Shown.{apply_closure, apply_part};
 
 use crate::copies::copies;
+use crate::sharing::shared;
 use futures::Future;
 use futures::task::{Context, Poll};
 use service_core::{IntoService, Service};
@@ -28,12 +29,14 @@ where
     ensures { IfOk result (λ a. I.turns_into service (apply_part a) × (apply_closure a ≡ wrap_fn)) }
 {
     let service = service.into_service();
-    let wrap_fn = Arc::new(alloc, wrap_fn)?;
-    Ok(Apply {
-        service,
-        wrap_fn,
-        types: PhantomData,
-    })
+    match shared(alloc, wrap_fn) {
+        Ok(wrap_fn) => Ok(Apply {
+            service,
+            wrap_fn,
+            types: PhantomData,
+        }),
+        Err(e) => Err(e),
+    }
 }
 
 /// Service of `apply_fn`: it answers what the future of its closure gives, to which it hands each request with its
@@ -49,12 +52,14 @@ impl<S: Clone, F: Drop, Req, In, Res, Err> Clone for Apply<S, F, Req, In, Res, E
     ghost is_clone = { λ a copy. S.is_clone (apply_part a) (apply_part copy) × (apply_closure copy ≡ apply_closure a) };
 
     fn clone(&self) -> Result<Apply<S, F, Req, In, Res, Err>, AllocError> {
-        let (service, wrap_fn) = copies(&self.service, &self.wrap_fn)?;
-        Ok(Apply {
-            service,
-            wrap_fn,
-            types: PhantomData,
-        })
+        match copies(&self.service, &self.wrap_fn) {
+            Ok((service, wrap_fn)) => Ok(Apply {
+                service,
+                wrap_fn,
+                types: PhantomData,
+            }),
+            Err(e) => Err(e),
+        }
     }
 }
 

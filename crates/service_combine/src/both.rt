@@ -3,11 +3,12 @@ ghost use Rattle.futures.specs.Poll.{IfReady, OnPending};
 ghost use Rattle.service_core.specs.Polls.{Polls};
 ghost use Rattle.service_combine.specs.Pairing.{BothGive, BothWaited, ErrsInOrder, HalfGives, HalfNeeds, IsLive};
 ghost use Rattle.service_combine.specs.declared.both.Both.TheVariants.{Halves, Refused};
+ghost use Rattle.service_combine.specs.declared.half.Half.TheVariants.{Waiting};
 
 use crate::half::{Half, take_both};
 use futures::Future;
 use futures::task::{Context, Poll};
-use service_core::NoMemory;
+use service_core::{NoMemory, Watched};
 
 /// Two services that are being made.
 #[derive(Drop)]
@@ -17,6 +18,21 @@ pub(crate) enum Both<X, Y, S, T> {
         second: Half<Y, T>,
     },
     Refused,
+}
+
+impl<X, Y, S, T> Both<X, Y, S, T> {
+    pub(crate) fn of(first: X, second: Y) -> Both<X, Y, S, T>
+        ensures { result ≡ Halves (Waiting (record { future = first; waits = 0 })) (Waiting (record { future = second; waits = 0 })) }
+    {
+        Both::Halves {
+            first: Half::Waiting {
+                future: Watched::new(first),
+            },
+            second: Half::Waiting {
+                future: Watched::new(second),
+            },
+        }
+    }
 }
 
 impl<X, Y, S, T, I> Future for Both<X, Y, S, T>

@@ -8,7 +8,11 @@ use std::sync::Arc;
 pub(crate) fn copies<A: Clone, F: Drop>(part: &A, f: &Arc<F>) -> Result<(A, Arc<F>), AllocError>
     ensures { IfOk result (λ pair. A.is_clone part.now pair.0 × (arc_value pair.1 ≡ arc_value f.now)) }
 {
-    let part = part.clone()?;
-    let f = Arc::try_clone(f)?;
-    Ok((part, f))
+    match part.clone() {
+        Ok(part) => match Arc::try_clone(f) {
+            Ok(f) => Ok((part, f)),
+            Err(e) => Err(e),
+        },
+        Err(e) => Err(e),
+    }
 }

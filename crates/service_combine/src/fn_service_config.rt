@@ -3,6 +3,7 @@ ghost use Rattle.service_core.specs.Meaning.{Follows};
 ghost use Rattle.service_combine.specs.Configuring.{GivesCallable, OfOk};
 ghost use Rattle.service_combine.specs.Shown.{config_closure};
 
+use crate::sharing::shared;
 use futures::Future;
 use service_core::{Service, ServiceFactory};
 use std::alloc::{AllocError, Global};
@@ -22,11 +23,13 @@ where
     Srv: Service<Req>,
     ensures { IfOk result (λ s. config_closure s ≡ f) }
 {
-    let f = Arc::new(alloc, f)?;
-    Ok(FnServiceConfig {
-        f,
-        types: PhantomData,
-    })
+    match shared(alloc, f) {
+        Ok(f) => Ok(FnServiceConfig {
+            f,
+            types: PhantomData,
+        }),
+        Err(e) => Err(e),
+    }
 }
 
 /// Factory of `fn_factory_with_config` (`actix_service::FnServiceConfig`).
@@ -42,11 +45,13 @@ impl<F: Drop, Fut, Cfg, Srv, Req, Err> Clone for FnServiceConfig<F, Fut, Cfg, Sr
     ghost is_clone = { λ s copy. config_closure copy ≡ config_closure s };
 
     fn clone(&self) -> Result<FnServiceConfig<F, Fut, Cfg, Srv, Req, Err>, AllocError> {
-        let f = Arc::try_clone(&self.f)?;
-        Ok(FnServiceConfig {
-            f,
-            types: PhantomData,
-        })
+        match Arc::try_clone(&self.f) {
+            Ok(f) => Ok(FnServiceConfig {
+                f,
+                types: PhantomData,
+            }),
+            Err(e) => Err(e),
+        }
     }
 }
 

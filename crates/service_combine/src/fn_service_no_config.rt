@@ -3,6 +3,7 @@ ghost use Rattle.service_core.specs.Meaning.{Follows};
 ghost use Rattle.service_combine.specs.Configuring.{GivesCallable, OfOk};
 ghost use Rattle.service_combine.specs.Shown.{no_config_closure};
 
+use crate::sharing::shared;
 use futures::Future;
 use service_core::{Service, ServiceFactory};
 use std::alloc::{AllocError, Global};
@@ -22,11 +23,13 @@ where
     Srv: Service<Req>,
     ensures { IfOk result (λ s. no_config_closure s ≡ f) }
 {
-    let f = Arc::new(alloc, f)?;
-    Ok(FnServiceNoConfig {
-        f,
-        types: PhantomData,
-    })
+    match shared(alloc, f) {
+        Ok(f) => Ok(FnServiceNoConfig {
+            f,
+            types: PhantomData,
+        }),
+        Err(e) => Err(e),
+    }
 }
 
 /// Factory of `fn_factory` (`actix_service::FnServiceNoConfig`).
@@ -42,11 +45,13 @@ impl<F: Drop, Cfg, Srv, Req, Fut, Err> Clone for FnServiceNoConfig<F, Cfg, Srv, 
     ghost is_clone = { λ s copy. no_config_closure copy ≡ no_config_closure s };
 
     fn clone(&self) -> Result<FnServiceNoConfig<F, Cfg, Srv, Req, Fut, Err>, AllocError> {
-        let f = Arc::try_clone(&self.f)?;
-        Ok(FnServiceNoConfig {
-            f,
-            types: PhantomData,
-        })
+        match Arc::try_clone(&self.f) {
+            Ok(f) => Ok(FnServiceNoConfig {
+                f,
+                types: PhantomData,
+            }),
+            Err(e) => Err(e),
+        }
     }
 }
 

@@ -1,7 +1,5 @@
-ghost use Rattle.std.specs.Prelude.{◌≡◌};
 ghost use Rattle.futures.specs.Task.{Keeps};
 ghost use Rattle.service_combine.specs.Pairing.{Advances, IsLive, Takes};
-ghost use Rattle.service_combine.specs.declared.half.Half.TheVariants.{Waiting};
 
 use futures::Future;
 use futures::task::{Context, Poll};
@@ -14,16 +12,6 @@ pub(crate) enum Half<Fut, S> {
     Waiting { future: Watched<Fut> },
     Made { service: S },
     Done,
-}
-
-impl<Fut, S> Half<Fut, S> {
-    pub(crate) fn of(future: Fut) -> Half<Fut, S>
-        ensures { result ≡ Waiting (record { future = future; waits = 0 }) }
-    {
-        Half::Waiting {
-            future: Watched::new(future),
-        }
-    }
 }
 
 impl<Fut, S: Drop> Half<Fut, S> {

@@ -37,6 +37,7 @@ mod pipeline_service;
 mod pipeline_service_factory;
 mod service_ext;
 mod service_factory_ext;
+mod sharing;
 mod then;
 mod then_factory;
 mod then_factory_response;

@@ -3,29 +3,19 @@ ghost use Rattle.futures.specs.Poll.{OnPending};
 ghost use Rattle.futures.specs.declared.task.Poll.TheVariants.{Ready as PollReady};
 ghost use Rattle.service_core.specs.Polls.{Polls};
 ghost use Rattle.service_combine.specs.Staging.{AwaitsReady, ReadyOr, ReadyWaited, Turns};
-ghost use Rattle.service_combine.specs.declared.made_ready.MadeReady.TheVariants.{Making, Readying, Done};
+ghost use Rattle.service_combine.specs.declared.made_ready.MadeReady.TheVariants.{Making, Readying};
 
 use crate::when_ready::WhenReady;
 use futures::Future;
 use futures::task::{Context, Poll};
 use service_core::{Service, Watched};
+use std::marker::PhantomData;
 
 /// A service that is made, and then given once it is ready. An error of its readiness is turned by `From`.
 #[derive(Drop)]
 pub(crate) enum MadeReady<X, S, Req> {
     Making { future: Watched<X> },
     Readying { ready: Watched<WhenReady<S, Req>> },
-    Done,
-}
-
-impl<X, S, Req> MadeReady<X, S, Req> {
-    pub(crate) fn of(future: X) -> MadeReady<X, S, Req>
-        ensures { result ≡ Making (record { future = future; waits = 0 }) }
-    {
-        MadeReady::Making {
-            future: Watched::new(future),
-        }
-    }
 }
 
 impl<X, S, Req, I> Future for MadeReady<X, S, Req>
@@ -40,19 +30,16 @@ where
     ghost can_poll = { λ m. elim m [
       | Making w ↦ X.can_poll w.future × ((s : S) → X.gives w.future (Ok s) → S.can_call s)
       | Readying w ↦ ⟦<WhenReady<S, Req> as Future>⟧.can_poll w.future
-      | Done ↦ ⊥
     ] };
 
     ghost needs = { λ m n. elim m [
       | Making w ↦ X.needs w.future n
       | Readying w ↦ ⊥
-      | Done ↦ ⊥
     ] };
 
     ghost gives = { λ m r. elim m [
       | Making w ↦ ReadyOr (X.gives w.future) S.may_ready I.From.from_gives r
       | Readying w ↦ AwaitsReady (⟦<WhenReady<S, Req> as Future>⟧.gives w.future) I.From.from_gives r
-      | Done ↦ ⊥
     ] };
 
     fn poll(&mut self, cx: &mut Context<'_>) -> Poll<Result<S, I>>
@@ -63,19 +50,18 @@ where
         match self {
             MadeReady::Making { future } => match future.poll(cx) {
                 Poll::Pending => Poll::Pending,
-                Poll::Ready(Err(e)) => {
-                    *self = MadeReady::Done;
-                    Poll::Ready(Err(e))
-                }
+                Poll::Ready(Err(e)) => Poll::Ready(Err(e)),
                 Poll::Ready(Ok(service)) => {
-                    let mut ready = Watched::new(WhenReady::of(service));
+                    let mut ready = Watched::new(WhenReady {
+                        service: Some(service),
+                        request: PhantomData,
+                    });
                     let polled = ready.poll(cx);
                     *self = MadeReady::Readying { ready };
                     turned(polled)
                 }
             },
             MadeReady::Readying { ready } => turned(ready.poll(cx)),
-            MadeReady::Done => unreachable!(),
         }
     }
 }

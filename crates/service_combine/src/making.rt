@@ -30,15 +30,6 @@ impl<Fut, F> Making<Fut, F> {
             },
         }
     }
-
-    // The closure could not be shared.
-    pub(crate) fn refused() -> Making<Fut, F>
-        ensures { result.state ≡ Refused }
-    {
-        Making {
-            state: OneStage::Refused,
-        }
-    }
 }
 
 impl<Fut, F, S, I> Future for Making<Fut, F>

@@ -10,7 +10,7 @@ use crate::one_stage::OneStage;
 use futures::Future;
 use futures::task::{Context, Poll};
 use service_core::{NoMemory, Service, Watched};
-use std::alloc::{AllocError, Global};
+use std::alloc::AllocError;
 use std::marker::PhantomData;
 use std::sync::Arc;
 
@@ -22,33 +22,18 @@ pub struct Map<A, F, Req, Res> {
     pub(crate) types: PhantomData<(Req, Res)>,
 }
 
-impl<A, F, Req, Res> Map<A, F, Req, Res>
-where
-    A: Service<Req> + Drop,
-    F: Fn(A::Response) -> Res + Drop,
-{
-    pub(crate) fn new(alloc: Global, service: A, f: F) -> Result<Map<A, F, Req, Res>, AllocError>
-        ensures { IfOk result (λ m. (map_part m ≡ service) × (map_closure m ≡ f)) }
-    {
-        let f = Arc::new(alloc, f)?;
-        Ok(Map {
-            service,
-            f,
-            types: PhantomData,
-        })
-    }
-}
-
 impl<A: Clone, F: Drop, Req, Res> Clone for Map<A, F, Req, Res> {
     ghost is_clone = { λ m copy. A.is_clone (map_part m) (map_part copy) × (map_closure copy ≡ map_closure m) };
 
     fn clone(&self) -> Result<Map<A, F, Req, Res>, AllocError> {
-        let (service, f) = copies(&self.service, &self.f)?;
-        Ok(Map {
-            service,
-            f,
-            types: PhantomData,
-        })
+        match copies(&self.service, &self.f) {
+            Ok((service, f)) => Ok(Map {
+                service,
+                f,
+                types: PhantomData,
+            }),
+            Err(e) => Err(e),
+        }
     }
 }
 

@@ -4,6 +4,7 @@ ghost use Rattle.service_combine.specs.Same.{MakesSame};
 ghost use Rattle.service_combine.specs.Shown.{map_config_closure, map_config_part};
 
 use crate::copies::copies;
+use crate::sharing::shared;
 use service_core::{IntoServiceFactory, ServiceFactory};
 use std::alloc::{AllocError, Global};
 use std::marker::PhantomData;
@@ -24,12 +25,14 @@ where
     ensures { IfOk result (λ m. I.turns_into factory (map_config_part m) × (map_config_closure m ≡ f)) }
 {
     let factory = factory.into_factory();
-    let cfg_mapper = Arc::new(alloc, f)?;
-    Ok(MapConfig {
-        factory,
-        cfg_mapper,
-        types: PhantomData,
-    })
+    match shared(alloc, f) {
+        Ok(cfg_mapper) => Ok(MapConfig {
+            factory,
+            cfg_mapper,
+            types: PhantomData,
+        }),
+        Err(e) => Err(e),
+    }
 }
 
 /// Factory of `map_config` (`actix_service::MapConfig`).
@@ -45,12 +48,14 @@ impl<SF: Clone, Req, F: Drop, Cfg> Clone for MapConfig<SF, Req, F, Cfg> {
         × (map_config_closure copy ≡ map_config_closure m) };
 
     fn clone(&self) -> Result<MapConfig<SF, Req, F, Cfg>, AllocError> {
-        let (factory, cfg_mapper) = copies(&self.factory, &self.cfg_mapper)?;
-        Ok(MapConfig {
-            factory,
-            cfg_mapper,
-            types: PhantomData,
-        })
+        match copies(&self.factory, &self.cfg_mapper) {
+            Ok((factory, cfg_mapper)) => Ok(MapConfig {
+                factory,
+                cfg_mapper,
+                types: PhantomData,
+            }),
+            Err(e) => Err(e),
+        }
     }
 }
 

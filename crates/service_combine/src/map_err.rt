@@ -11,7 +11,7 @@ use crate::one_stage::OneStage;
 use futures::Future;
 use futures::task::{Context, Poll};
 use service_core::{NoMemory, Service, Watched};
-use std::alloc::{AllocError, Global};
+use std::alloc::AllocError;
 use std::marker::PhantomData;
 use std::sync::Arc;
 
@@ -24,33 +24,18 @@ pub struct MapErr<A, Req, F, E> {
     pub(crate) types: PhantomData<(Req, E)>,
 }
 
-impl<A, Req, F, E> MapErr<A, Req, F, E>
-where
-    A: Service<Req> + Drop,
-    F: Fn(A::Error) -> E + Drop,
-{
-    pub(crate) fn new(alloc: Global, service: A, f: F) -> Result<MapErr<A, Req, F, E>, AllocError>
-        ensures { IfOk result (λ m. (map_err_part m ≡ service) × (map_err_closure m ≡ f)) }
-    {
-        let f = Arc::new(alloc, f)?;
-        Ok(MapErr {
-            service,
-            f,
-            types: PhantomData,
-        })
-    }
-}
-
 impl<A: Clone, Req, F: Drop, E> Clone for MapErr<A, Req, F, E> {
     ghost is_clone = { λ m copy. A.is_clone (map_err_part m) (map_err_part copy) × (map_err_closure copy ≡ map_err_closure m) };
 
     fn clone(&self) -> Result<MapErr<A, Req, F, E>, AllocError> {
-        let (service, f) = copies(&self.service, &self.f)?;
-        Ok(MapErr {
-            service,
-            f,
-            types: PhantomData,
-        })
+        match copies(&self.service, &self.f) {
+            Ok((service, f)) => Ok(MapErr {
+                service,
+                f,
+                types: PhantomData,
+            }),
+            Err(e) => Err(e),
+        }
     }
 }
 

@@ -10,7 +10,7 @@ use crate::making::Making;
 use crate::{MapErr, MapErrFuture, MapErrServiceFuture};
 use futures::Future;
 use service_core::{NoMemory, Service, ServiceFactory};
-use std::alloc::{AllocError, Global};
+use std::alloc::AllocError;
 use std::marker::PhantomData;
 use std::sync::Arc;
 
@@ -23,38 +23,19 @@ pub struct MapErrServiceFactory<A, Req, F, E> {
     pub(crate) types: PhantomData<(Req, E)>,
 }
 
-impl<A, Req, F, E> MapErrServiceFactory<A, Req, F, E>
-where
-    A: ServiceFactory<Req> + Drop,
-    F: Fn(A::Error) -> E + Drop,
-{
-    pub(crate) fn new(
-        alloc: Global,
-        factory: A,
-        f: F,
-    ) -> Result<MapErrServiceFactory<A, Req, F, E>, AllocError>
-        ensures { IfOk result (λ m. (map_err_factory m ≡ factory) × (map_err_factory_closure m ≡ f)) }
-    {
-        let f = Arc::new(alloc, f)?;
-        Ok(MapErrServiceFactory {
-            factory,
-            f,
-            types: PhantomData,
-        })
-    }
-}
-
 impl<A: Clone, Req, F: Drop, E> Clone for MapErrServiceFactory<A, Req, F, E> {
     ghost is_clone = { λ m copy. A.is_clone (map_err_factory m) (map_err_factory copy)
         × (map_err_factory_closure copy ≡ map_err_factory_closure m) };
 
     fn clone(&self) -> Result<MapErrServiceFactory<A, Req, F, E>, AllocError> {
-        let (factory, f) = copies(&self.factory, &self.f)?;
-        Ok(MapErrServiceFactory {
-            factory,
-            f,
-            types: PhantomData,
-        })
+        match copies(&self.factory, &self.f) {
+            Ok((factory, f)) => Ok(MapErrServiceFactory {
+                factory,
+                f,
+                types: PhantomData,
+            }),
+            Err(e) => Err(e),
+        }
     }
 }
 

@@ -7,6 +7,7 @@ ghost use Rattle.service_combine.specs.declared.one_stage.OneStage.TheVariants.{
 
 use crate::MapErr;
 use crate::making::Making;
+use crate::one_stage::OneStage;
 use futures::Future;
 use futures::task::{Context, Poll};
 use service_core::NoMemory;
@@ -25,7 +26,9 @@ impl<Fut, F, Req, E> MapErrServiceFuture<Fut, F, Req, E> {
         ensures { result.making.state ≡ Refused }
     {
         MapErrServiceFuture {
-            making: Making::refused(),
+            making: Making {
+                state: OneStage::Refused,
+            },
             types: PhantomData,
         }
     }

@@ -7,7 +7,7 @@ use crate::copies::copies;
 use crate::one_stage::OneStage;
 use crate::{MapErrFuture, MapInitErrFuture};
 use service_core::{NoMemory, ServiceFactory, Watched};
-use std::alloc::{AllocError, Global};
+use std::alloc::AllocError;
 use std::marker::PhantomData;
 use std::sync::Arc;
 
@@ -20,38 +20,19 @@ pub struct MapInitErr<A, F, Req, E> {
     pub(crate) types: PhantomData<(Req, E)>,
 }
 
-impl<A, F, Req, E> MapInitErr<A, F, Req, E>
-where
-    A: ServiceFactory<Req> + Drop,
-    F: Fn(A::InitError) -> E + Drop,
-{
-    pub(crate) fn new(
-        alloc: Global,
-        factory: A,
-        f: F,
-    ) -> Result<MapInitErr<A, F, Req, E>, AllocError>
-        ensures { IfOk result (λ m. (map_init_err_factory m ≡ factory) × (map_init_err_closure m ≡ f)) }
-    {
-        let f = Arc::new(alloc, f)?;
-        Ok(MapInitErr {
-            factory,
-            f,
-            types: PhantomData,
-        })
-    }
-}
-
 impl<A: Clone, F: Drop, Req, E> Clone for MapInitErr<A, F, Req, E> {
     ghost is_clone = { λ m copy. A.is_clone (map_init_err_factory m) (map_init_err_factory copy)
         × (map_init_err_closure copy ≡ map_init_err_closure m) };
 
     fn clone(&self) -> Result<MapInitErr<A, F, Req, E>, AllocError> {
-        let (factory, f) = copies(&self.factory, &self.f)?;
-        Ok(MapInitErr {
-            factory,
-            f,
-            types: PhantomData,
-        })
+        match copies(&self.factory, &self.f) {
+            Ok((factory, f)) => Ok(MapInitErr {
+                factory,
+                f,
+                types: PhantomData,
+            }),
+            Err(e) => Err(e),
+        }
     }
 }
 

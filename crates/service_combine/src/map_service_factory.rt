@@ -9,7 +9,7 @@ use crate::making::Making;
 use crate::{Map, MapFuture, MapServiceFuture};
 use futures::Future;
 use service_core::{NoMemory, Service, ServiceFactory};
-use std::alloc::{AllocError, Global};
+use std::alloc::AllocError;
 use std::marker::PhantomData;
 use std::sync::Arc;
 
@@ -22,37 +22,18 @@ pub struct MapServiceFactory<A, F, Req, Res> {
     pub(crate) types: PhantomData<(Req, Res)>,
 }
 
-impl<A, F, Req, Res> MapServiceFactory<A, F, Req, Res>
-where
-    A: ServiceFactory<Req> + Drop,
-    F: Fn(A::Response) -> Res + Drop,
-{
-    pub(crate) fn new(
-        alloc: Global,
-        factory: A,
-        f: F,
-    ) -> Result<MapServiceFactory<A, F, Req, Res>, AllocError>
-        ensures { IfOk result (λ m. (map_factory m ≡ factory) × (map_factory_closure m ≡ f)) }
-    {
-        let f = Arc::new(alloc, f)?;
-        Ok(MapServiceFactory {
-            factory,
-            f,
-            types: PhantomData,
-        })
-    }
-}
-
 impl<A: Clone, F: Drop, Req, Res> Clone for MapServiceFactory<A, F, Req, Res> {
     ghost is_clone = { λ m copy. A.is_clone (map_factory m) (map_factory copy) × (map_factory_closure copy ≡ map_factory_closure m) };
 
     fn clone(&self) -> Result<MapServiceFactory<A, F, Req, Res>, AllocError> {
-        let (factory, f) = copies(&self.factory, &self.f)?;
-        Ok(MapServiceFactory {
-            factory,
-            f,
-            types: PhantomData,
-        })
+        match copies(&self.factory, &self.f) {
+            Ok((factory, f)) => Ok(MapServiceFactory {
+                factory,
+                f,
+                types: PhantomData,
+            }),
+            Err(e) => Err(e),
+        }
     }
 }
 

@@ -7,6 +7,7 @@ ghost use Rattle.service_combine.specs.declared.one_stage.OneStage.TheVariants.{
 
 use crate::Map;
 use crate::making::Making;
+use crate::one_stage::OneStage;
 use futures::Future;
 use futures::task::{Context, Poll};
 use service_core::NoMemory;
@@ -25,7 +26,9 @@ impl<Fut, F, Req, Res> MapServiceFuture<Fut, F, Req, Res> {
         ensures { result.making.state ≡ Refused }
     {
         MapServiceFuture {
-            making: Making::refused(),
+            making: Making {
+                state: OneStage::Refused,
+            },
             types: PhantomData,
         }
     }

@@ -3,7 +3,8 @@ ghost use Rattle.service_combine.specs.Same.{MeansSame};
 ghost use Rattle.service_combine.specs.Shown.{and_then_first, and_then_second, map_closure, map_err_closure, map_err_part, map_part};
 ghost use Rattle.service_combine.specs.Shown.{pipeline_part, then_first, then_second};
 
-use crate::{AndThenService, Map, MapErr, ThenService};
+use crate::sharing::shared;
+use crate::{AndThenService, Map, MapErr, ServiceExt, ThenService};
 use futures::task::{Context, Poll};
 use service_core::{IntoService, Service};
 use std::alloc::{AllocError, Global};
@@ -36,11 +37,13 @@ where
             service: first,
             request: _,
         } = self;
-        let service = AndThenService::new(alloc, first, service.into_service())?;
-        Ok(Pipeline {
-            service,
-            request: PhantomData,
-        })
+        match first.and_then(alloc, service) {
+            Ok(service) => Ok(Pipeline {
+                service,
+                request: PhantomData,
+            }),
+            Err(e) => Err(e),
+        }
     }
 
     /// Hands each result, Ok or not, to a second service.
@@ -59,11 +62,16 @@ where
             service: first,
             request: _,
         } = self;
-        let service = ThenService::new(alloc, first, service.into_service())?;
-        Ok(Pipeline {
-            service,
-            request: PhantomData,
-        })
+        match shared(alloc, (first, service.into_service())) {
+            Ok(parts) => Ok(Pipeline {
+                service: ThenService {
+                    parts,
+                    request: PhantomData,
+                },
+                request: PhantomData,
+            }),
+            Err(e) => Err(e),
+        }
     }
 
     /// Changes the Ok responses by a closure.
@@ -80,11 +88,13 @@ where
             service: first,
             request: _,
         } = self;
-        let service = Map::new(alloc, first, f)?;
-        Ok(Pipeline {
-            service,
-            request: PhantomData,
-        })
+        match first.map(alloc, f) {
+            Ok(service) => Ok(Pipeline {
+                service,
+                request: PhantomData,
+            }),
+            Err(e) => Err(e),
+        }
     }
 
     /// Changes the errors of calls and of readiness by a closure.
@@ -101,11 +111,13 @@ where
             service: first,
             request: _,
         } = self;
-        let service = MapErr::new(alloc, first, f)?;
-        Ok(Pipeline {
-            service,
-            request: PhantomData,
-        })
+        match first.map_err(alloc, f) {
+            Ok(service) => Ok(Pipeline {
+                service,
+                request: PhantomData,
+            }),
+            Err(e) => Err(e),
+        }
     }
 }
 
@@ -113,11 +125,13 @@ impl<S: Clone, Req> Clone for Pipeline<S, Req> {
     ghost is_clone = { λ p copy. S.is_clone (pipeline_part p) (pipeline_part copy) };
 
     fn clone(&self) -> Result<Pipeline<S, Req>, AllocError> {
-        let service = self.service.clone()?;
-        Ok(Pipeline {
-            service,
-            request: PhantomData,
-        })
+        match self.service.clone() {
+            Ok(service) => Ok(Pipeline {
+                service,
+                request: PhantomData,
+            }),
+            Err(e) => Err(e),
+        }
     }
 }
 

@@ -4,8 +4,10 @@ ghost use Rattle.service_combine.specs.Shown.{and_then_first_factory, and_then_s
 ghost use Rattle.service_combine.specs.Shown.{map_factory, map_factory_closure, map_init_err_closure, map_init_err_factory};
 ghost use Rattle.service_combine.specs.Shown.{pipeline_factory_part, then_first_factory, then_second_factory};
 
+use crate::sharing::shared;
 use crate::{
-    AndThenServiceFactory, MapErrServiceFactory, MapInitErr, MapServiceFactory, ThenServiceFactory,
+    AndThenServiceFactory, MapErrServiceFactory, MapInitErr, MapServiceFactory, ServiceFactoryExt,
+    ThenServiceFactory,
 };
 use service_core::{IntoServiceFactory, ServiceFactory};
 use std::alloc::{AllocError, Global};
@@ -44,11 +46,13 @@ where
             factory: first,
             request: _,
         } = self;
-        let factory = AndThenServiceFactory::new(alloc, first, factory.into_factory())?;
-        Ok(PipelineFactory {
-            factory,
-            request: PhantomData,
-        })
+        match first.and_then(alloc, factory) {
+            Ok(factory) => Ok(PipelineFactory {
+                factory,
+                request: PhantomData,
+            }),
+            Err(e) => Err(e),
+        }
     }
 
     /// Hands each result, Ok or not, to a service of a second factory. The first factory gets a clone of the configuration.
@@ -73,11 +77,17 @@ where
             factory: first,
             request: _,
         } = self;
-        let factory = ThenServiceFactory::new(alloc, first, factory.into_factory())?;
-        Ok(PipelineFactory {
-            factory,
-            request: PhantomData,
-        })
+        match shared(alloc, (first, factory.into_factory())) {
+            Ok(parts) => Ok(PipelineFactory {
+                factory: ThenServiceFactory {
+                    parts,
+                    alloc,
+                    request: PhantomData,
+                },
+                request: PhantomData,
+            }),
+            Err(e) => Err(e),
+        }
     }
 
     /// Changes the Ok responses of the services by a closure.
@@ -95,11 +105,13 @@ where
             factory: first,
             request: _,
         } = self;
-        let factory = MapServiceFactory::new(alloc, first, f)?;
-        Ok(PipelineFactory {
-            factory,
-            request: PhantomData,
-        })
+        match first.map(alloc, f) {
+            Ok(factory) => Ok(PipelineFactory {
+                factory,
+                request: PhantomData,
+            }),
+            Err(e) => Err(e),
+        }
     }
 
     /// Changes the errors of the services' calls and of their readiness by a closure.
@@ -117,11 +129,13 @@ where
             factory: first,
             request: _,
         } = self;
-        let factory = MapErrServiceFactory::new(alloc, first, f)?;
-        Ok(PipelineFactory {
-            factory,
-            request: PhantomData,
-        })
+        match first.map_err(alloc, f) {
+            Ok(factory) => Ok(PipelineFactory {
+                factory,
+                request: PhantomData,
+            }),
+            Err(e) => Err(e),
+        }
     }
 
     /// Changes what comes in place of a service by a closure.
@@ -139,11 +153,13 @@ where
             factory: first,
             request: _,
         } = self;
-        let factory = MapInitErr::new(alloc, first, f)?;
-        Ok(PipelineFactory {
-            factory,
-            request: PhantomData,
-        })
+        match first.map_init_err(alloc, f) {
+            Ok(factory) => Ok(PipelineFactory {
+                factory,
+                request: PhantomData,
+            }),
+            Err(e) => Err(e),
+        }
     }
 }
 
@@ -151,11 +167,13 @@ impl<SF: Clone, Req> Clone for PipelineFactory<SF, Req> {
     ghost is_clone = { λ p copy. SF.is_clone (pipeline_factory_part p) (pipeline_factory_part copy) };
 
     fn clone(&self) -> Result<PipelineFactory<SF, Req>, AllocError> {
-        let factory = self.factory.clone()?;
-        Ok(PipelineFactory {
-            factory,
-            request: PhantomData,
-        })
+        match self.factory.clone() {
+            Ok(factory) => Ok(PipelineFactory {
+                factory,
+                request: PhantomData,
+            }),
+            Err(e) => Err(e),
+        }
     }
 }
 

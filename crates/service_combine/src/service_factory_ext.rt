@@ -2,9 +2,11 @@ ghost use Rattle.std.specs.Prelude.{◌≡◌, IfOk};
 ghost use Rattle.service_combine.specs.Shown.{and_then_first_factory, and_then_second_factory, map_err_factory, map_err_factory_closure};
 ghost use Rattle.service_combine.specs.Shown.{map_factory, map_factory_closure, map_init_err_closure, map_init_err_factory};
 
+use crate::sharing::shared;
 use crate::{AndThenServiceFactory, MapErrServiceFactory, MapInitErr, MapServiceFactory};
 use service_core::{IntoServiceFactory, ServiceFactory};
 use std::alloc::{AllocError, Global};
+use std::marker::PhantomData;
 
 /// The combinators of every factory (`actix_service::ServiceFactoryExt`). `AllocError` comes for want of memory alone.
 pub trait ServiceFactoryExt<Req>: ServiceFactory<Req> {
@@ -19,7 +21,14 @@ pub trait ServiceFactoryExt<Req>: ServiceFactory<Req> {
         F: Fn(Self::Response) -> R + Drop,
         ensures { IfOk result (λ m. (map_factory m ≡ self) × (map_factory_closure m ≡ f)) }
     {
-        MapServiceFactory::new(alloc, self, f)
+        match shared(alloc, f) {
+            Ok(f) => Ok(MapServiceFactory {
+                factory: self,
+                f,
+                types: PhantomData,
+            }),
+            Err(e) => Err(e),
+        }
     }
 
     /// Changes the errors of the services' calls and of their readiness by a closure.
@@ -33,7 +42,14 @@ pub trait ServiceFactoryExt<Req>: ServiceFactory<Req> {
         F: Fn(Self::Error) -> E + Drop,
         ensures { IfOk result (λ m. (map_err_factory m ≡ self) × (map_err_factory_closure m ≡ f)) }
     {
-        MapErrServiceFactory::new(alloc, self, f)
+        match shared(alloc, f) {
+            Ok(f) => Ok(MapErrServiceFactory {
+                factory: self,
+                f,
+                types: PhantomData,
+            }),
+            Err(e) => Err(e),
+        }
     }
 
     /// Changes what comes in place of a service by a closure.
@@ -47,7 +63,14 @@ pub trait ServiceFactoryExt<Req>: ServiceFactory<Req> {
         F: Fn(Self::InitError) -> E + Drop,
         ensures { IfOk result (λ m. (map_init_err_factory m ≡ self) × (map_init_err_closure m ≡ f)) }
     {
-        MapInitErr::new(alloc, self, f)
+        match shared(alloc, f) {
+            Ok(f) => Ok(MapInitErr {
+                factory: self,
+                f,
+                types: PhantomData,
+            }),
+            Err(e) => Err(e),
+        }
     }
 
     /// Hands each Ok response to a service of a second factory. The first factory gets a clone of the configuration.
@@ -68,7 +91,14 @@ pub trait ServiceFactoryExt<Req>: ServiceFactory<Req> {
             + Drop,
         ensures { IfOk result (λ f. (and_then_first_factory f ≡ self) × I.turns_into factory (and_then_second_factory f)) }
     {
-        AndThenServiceFactory::new(alloc, self, factory.into_factory())
+        match shared(alloc, (self, factory.into_factory())) {
+            Ok(parts) => Ok(AndThenServiceFactory {
+                parts,
+                alloc,
+                request: PhantomData,
+            }),
+            Err(e) => Err(e),
+        }
     }
 }
 

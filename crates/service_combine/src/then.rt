@@ -1,5 +1,4 @@
-ghost use Rattle.std.specs.Prelude.{◌≡◌, IfOk};
-ghost use Rattle.std.specs.Arc.{arc_value};
+ghost use Rattle.std.specs.Prelude.{◌≡◌};
 ghost use Rattle.service_core.specs.Meaning.{GivesOnly};
 ghost use Rattle.service_combine.specs.Equations.{ThenMay};
 ghost use Rattle.service_combine.specs.Readying.{BothReady};
@@ -11,7 +10,7 @@ use crate::two_stages::TwoStages;
 use futures::Future;
 use futures::task::{Context, Poll};
 use service_core::{NoMemory, Service, Watched};
-use std::alloc::{AllocError, Global};
+use std::alloc::AllocError;
 use std::marker::PhantomData;
 use std::sync::Arc;
 
@@ -25,35 +24,17 @@ pub struct ThenService<A, B, Req> {
     pub(crate) request: PhantomData<Req>,
 }
 
-impl<A, B, Req> ThenService<A, B, Req>
-where
-    A: Service<Req> + Drop,
-    B: Service<Result<A::Response, A::Error>, Error = A::Error> + Drop,
-{
-    pub(crate) fn new(
-        alloc: Global,
-        first: A,
-        second: B,
-    ) -> Result<ThenService<A, B, Req>, AllocError>
-        ensures { IfOk result (λ s. arc_value s.parts ≡ (first, second)) }
-    {
-        let parts = Arc::new(alloc, (first, second))?;
-        Ok(ThenService {
-            parts,
-            request: PhantomData,
-        })
-    }
-}
-
 impl<A: Drop, B: Drop, Req> Clone for ThenService<A, B, Req> {
     ghost is_clone = { λ s copy. (then_first copy ≡ then_first s) × (then_second copy ≡ then_second s) };
 
     fn clone(&self) -> Result<ThenService<A, B, Req>, AllocError> {
-        let parts = Arc::try_clone(&self.parts)?;
-        Ok(ThenService {
-            parts,
-            request: PhantomData,
-        })
+        match Arc::try_clone(&self.parts) {
+            Ok(parts) => Ok(ThenService {
+                parts,
+                request: PhantomData,
+            }),
+            Err(e) => Err(e),
+        }
     }
 }
 

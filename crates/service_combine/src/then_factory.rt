@@ -1,12 +1,10 @@
-ghost use Rattle.std.specs.Prelude.{◌≡◌, ◌⊎◌, IfOk};
-ghost use Rattle.std.specs.Arc.{arc_value};
+ghost use Rattle.std.specs.Prelude.{◌≡◌, ◌⊎◌};
 ghost use Rattle.service_core.specs.Meaning.{Follows, GivesOnly, Through};
 ghost use Rattle.service_combine.specs.Equations.{ThenMakes};
 ghost use Rattle.service_combine.specs.Readying.{BothReady};
 ghost use Rattle.service_combine.specs.Shown.{then_first_factory, then_second_factory};
 
 use crate::both::Both;
-use crate::half::Half;
 use crate::{ThenService, ThenServiceFactoryResponse, ThenServiceResponse};
 use futures::Future;
 use service_core::{NoMemory, Service, ServiceFactory};
@@ -26,43 +24,18 @@ pub struct ThenServiceFactory<A, B, Req> {
     pub(crate) request: PhantomData<Req>,
 }
 
-impl<A, B, Req> ThenServiceFactory<A, B, Req>
-where
-    A: ServiceFactory<Req> + Drop,
-    B: ServiceFactory<
-        Result<A::Response, A::Error>,
-        Config = A::Config,
-        Error = A::Error,
-        InitError = A::InitError,
-    >
-        + Drop,
-{
-    pub(crate) fn new(
-        alloc: Global,
-        first: A,
-        second: B,
-    ) -> Result<ThenServiceFactory<A, B, Req>, AllocError>
-        ensures { IfOk result (λ f. arc_value f.parts ≡ (first, second)) }
-    {
-        let parts = Arc::new(alloc, (first, second))?;
-        Ok(ThenServiceFactory {
-            parts,
-            alloc,
-            request: PhantomData,
-        })
-    }
-}
-
 impl<A: Drop, B: Drop, Req> Clone for ThenServiceFactory<A, B, Req> {
     ghost is_clone = { λ f copy. (then_first_factory copy ≡ then_first_factory f) × (then_second_factory copy ≡ then_second_factory f) };
 
     fn clone(&self) -> Result<ThenServiceFactory<A, B, Req>, AllocError> {
-        let parts = Arc::try_clone(&self.parts)?;
-        Ok(ThenServiceFactory {
-            parts,
-            alloc: self.alloc,
-            request: PhantomData,
-        })
+        match Arc::try_clone(&self.parts) {
+            Ok(parts) => Ok(ThenServiceFactory {
+                parts,
+                alloc: self.alloc,
+                request: PhantomData,
+            }),
+            Err(e) => Err(e),
+        }
     }
 }
 
@@ -111,10 +84,10 @@ where
     fn new_service(&self, cfg: A::Config) -> ThenServiceFactoryResponse<A, B, Req> {
         match cfg.clone() {
             Ok(copy) => ThenServiceFactoryResponse {
-                making: Both::Halves {
-                    first: Half::of(self.parts.0.new_service(copy)),
-                    second: Half::of(self.parts.1.new_service(cfg)),
-                },
+                making: Both::of(
+                    self.parts.0.new_service(copy),
+                    self.parts.1.new_service(cfg),
+                ),
                 alloc: self.alloc,
             },
             Err(_) => ThenServiceFactoryResponse::refused(self.alloc),

@@ -9,10 +9,12 @@ ghost use Rattle.service_combine.specs.declared.both.Both.TheVariants.{Refused};
 
 use crate::ThenService;
 use crate::both::Both;
+use crate::sharing::shared;
 use futures::Future;
 use futures::task::{Context, Poll};
 use service_core::{NoMemory, Service, ServiceFactory};
 use std::alloc::Global;
+use std::marker::PhantomData;
 
 /// Future of a service of `ThenServiceFactory`: each poll asks both makings until both services stand. The first error
 /// is the answer, that of the first part before that of the second.
@@ -86,8 +88,11 @@ where
             Poll::Pending => Poll::Pending,
             Poll::Ready(Err(e)) => Poll::Ready(Err(e)),
             Poll::Ready(Ok((first, second))) => {
-                match ThenService::new(self.alloc, first, second) {
-                    Ok(service) => Poll::Ready(Ok(service)),
+                match shared(self.alloc, (first, second)) {
+                    Ok(parts) => Poll::Ready(Ok(ThenService {
+                        parts,
+                        request: PhantomData,
+                    })),
                     Err(_) => Poll::Ready(Err(NoMemory::no_memory())),
                 }
             }

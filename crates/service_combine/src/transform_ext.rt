@@ -2,8 +2,10 @@ ghost use Rattle.std.specs.Prelude.{◌≡◌, IfOk};
 ghost use Rattle.service_combine.specs.Shown.{map_init_err_transform, map_init_err_transform_closure};
 
 use crate::TransformMapInitErr;
+use crate::sharing::shared;
 use service_core::Transform;
 use std::alloc::{AllocError, Global};
+use std::marker::PhantomData;
 
 /// The combinators of every transform (`actix_service::TransformExt`). `AllocError` comes for want of memory alone.
 pub trait TransformExt<S, Req>: Transform<S, Req> {
@@ -18,7 +20,14 @@ pub trait TransformExt<S, Req>: Transform<S, Req> {
         F: Fn(Self::InitError) -> E + Drop,
         ensures { IfOk result (λ m. (map_init_err_transform m ≡ self) × (map_init_err_transform_closure m ≡ f)) }
     {
-        TransformMapInitErr::new(alloc, self, f)
+        match shared(alloc, f) {
+            Ok(f) => Ok(TransformMapInitErr {
+                transform: self,
+                f,
+                types: PhantomData,
+            }),
+            Err(e) => Err(e),
+        }
     }
 }
 

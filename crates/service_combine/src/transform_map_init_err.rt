@@ -7,7 +7,7 @@ use crate::copies::copies;
 use crate::one_stage::OneStage;
 use crate::{MapErrFuture, TransformMapInitErrFuture};
 use service_core::{NoMemory, Transform, Watched};
-use std::alloc::{AllocError, Global};
+use std::alloc::AllocError;
 use std::marker::PhantomData;
 use std::sync::Arc;
 
@@ -20,38 +20,19 @@ pub struct TransformMapInitErr<T, S, Req, F, E> {
     pub(crate) types: PhantomData<(S, Req, E)>,
 }
 
-impl<T, S, Req, F, E> TransformMapInitErr<T, S, Req, F, E>
-where
-    T: Transform<S, Req> + Drop,
-    F: Fn(T::InitError) -> E + Drop,
-{
-    pub(crate) fn new(
-        alloc: Global,
-        transform: T,
-        f: F,
-    ) -> Result<TransformMapInitErr<T, S, Req, F, E>, AllocError>
-        ensures { IfOk result (λ m. (map_init_err_transform m ≡ transform) × (map_init_err_transform_closure m ≡ f)) }
-    {
-        let f = Arc::new(alloc, f)?;
-        Ok(TransformMapInitErr {
-            transform,
-            f,
-            types: PhantomData,
-        })
-    }
-}
-
 impl<T: Clone, S, Req, F: Drop, E> Clone for TransformMapInitErr<T, S, Req, F, E> {
     ghost is_clone = { λ m copy. T.is_clone (map_init_err_transform m) (map_init_err_transform copy)
         × (map_init_err_transform_closure copy ≡ map_init_err_transform_closure m) };
 
     fn clone(&self) -> Result<TransformMapInitErr<T, S, Req, F, E>, AllocError> {
-        let (transform, f) = copies(&self.transform, &self.f)?;
-        Ok(TransformMapInitErr {
-            transform,
-            f,
-            types: PhantomData,
-        })
+        match copies(&self.transform, &self.f) {
+            Ok((transform, f)) => Ok(TransformMapInitErr {
+                transform,
+                f,
+                types: PhantomData,
+            }),
+            Err(e) => Err(e),
+        }
     }
 }
 

@@ -30,11 +30,13 @@ impl<SF: Clone, Cfg, Req> Clone for UnitConfig<SF, Cfg, Req> {
     ghost is_clone = { λ u copy. SF.is_clone (unit_config_part u) (unit_config_part copy) };
 
     fn clone(&self) -> Result<UnitConfig<SF, Cfg, Req>, AllocError> {
-        let factory = self.factory.clone()?;
-        Ok(UnitConfig {
-            factory,
-            types: PhantomData,
-        })
+        match self.factory.clone() {
+            Ok(factory) => Ok(UnitConfig {
+                factory,
+                types: PhantomData,
+            }),
+            Err(e) => Err(e),
+        }
     }
 }
 

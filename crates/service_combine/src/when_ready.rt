@@ -11,18 +11,7 @@ use std::marker::PhantomData;
 #[derive(Drop)]
 pub(crate) struct WhenReady<S, Req> {
     pub(crate) service: Option<S>,
-    request: PhantomData<Req>,
-}
-
-impl<S, Req> WhenReady<S, Req> {
-    pub(crate) fn of(service: S) -> WhenReady<S, Req>
-        ensures { result.service ≡ Some service }
-    {
-        WhenReady {
-            service: Some(service),
-            request: PhantomData,
-        }
-    }
+    pub(crate) request: PhantomData<Req>,
 }
 
 impl<S: Service<Req> + Drop, Req: Drop> Future for WhenReady<S, Req> {

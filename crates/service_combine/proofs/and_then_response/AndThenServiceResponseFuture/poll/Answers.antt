@@ -40,3 +40,6 @@ returns-in-Ready-Ok-clause-polls g c =
       registered = polled.registered;
       kept = search rules;
     }
+
+pub returns-in-Second-clause-waited : goal.returns-in-Second-clause-waited
+returns-in-Second-clause-waited g c = search rules

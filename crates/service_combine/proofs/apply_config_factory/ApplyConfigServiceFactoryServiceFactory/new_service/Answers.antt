@@ -5,7 +5,7 @@ use Rattle.service_combine.proofs.apply_config_factory.ApplyConfigServiceFactory
 pub returns-in-Ok-clause-pollable : goal.returns-in-Ok-clause-pollable
 returns-in-Ok-clause-pollable g c =
     let made = rw c.deref.ensures at c.new_service.ensures.made in
-    rw (c.of.ensures, c.in-Ok.ensures) (
+    rw (c.new.ensures.future, c.in-Ok.ensures) (
       (c.new_service.ensures.pollable, λ s given. (made (Ok s) given).1.callable),
       λ s given.
           let from = c.requires.1 c.args.cfg s (made (Ok s) given.0).1.callable in
@@ -18,5 +18,5 @@ returns-in-Ok-clause-pollable g c =
 pub returns-in-Ok-clause-made : goal.returns-in-Ok-clause-made
 returns-in-Ok-clause-made g c =
     let made = rw c.deref.ensures at c.new_service.ensures.made in
-    rw (c.of.ensures, c.in-Ok.ensures)
+    rw (c.new.ensures.future, c.in-Ok.ensures)
     (Makes-through _ _ _ _ _ _ _ _ _ _ _ _ made (λ s can. (c.requires.1 c.args.cfg s can).makes))

@@ -1,4 +1,4 @@
-use Rattle.std.proofs.Common.{rules}
+use Rattle.std.proofs.Common.{rules, refl}
 use Rattle.service_combine.proofs.PollLemmas.{IfReady-more, OnPending-more, turned-pending, turned-value}
 use Rattle.service_combine.proofs.StageLemmas.{AwaitsReady-within, ready-from}
 use Rattle.service_combine.proofs.made_ready.MadeReadyFuture.poll.Goals as goal
@@ -10,12 +10,12 @@ returns-in-Ready-Ok-clause-polls g c =
     record {
       value = rw c.in-Making.is (IfReady-more c.turned.result _ _
           (turned-value _ _ c.poll-polled.result _ c.turned.ensures (rw c.new-ready.ensures.future at polled.value))
-          (ready-from _ g.S.Service.may_ready (g.X.Future.gives c.in-Making.future.future) c.in-Ready-Ok.service c.of.result.service c.of.ensures from _
+          (ready-from _ g.S.Service.may_ready (g.X.Future.gives c.in-Making.future.future) c.in-Ready-Ok.service _ refl from _
           (λ x given. given)));
       again = turned-pending _ _ c.poll-polled.result _ c.turned.ensures polled.again;
       same = OnPending-more c.turned.result _ _ (turned-pending _ _ c.poll-polled.result _ c.turned.ensures polled.same)
           (λ same. rw c.in-Making.is
-          (ready-from _ g.S.Service.may_ready (g.X.Future.gives c.in-Making.future.future) c.in-Ready-Ok.service c.of.result.service c.of.ensures from _
+          (ready-from _ g.S.Service.may_ready (g.X.Future.gives c.in-Making.future.future) c.in-Ready-Ok.service _ refl from _
           (rw c.new-ready.ensures.future at same)));
       registered = turned-pending _ _ c.poll-polled.result _ c.turned.ensures polled.registered;
       kept = search rules;

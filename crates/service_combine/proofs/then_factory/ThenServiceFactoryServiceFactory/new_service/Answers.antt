@@ -12,7 +12,7 @@ returns-in-Ok-clause-made g c =
     let copied : (P : g.row.A-Config.Denot → Type 0) → P c.in-Ok.copy → Through (g.A.Config.Clone.is_clone c.args.cfg) P =
     (λ P holds. record { value = c.in-Ok.copy; comes = c.in-Ok.ensures.cases; holds = holds }) in
     let parts = arc_value c.args.self.now.parts in
-    rw (c.of.ensures, c.of-in-Ok.ensures)
+    rw c.of.ensures
     (Makes-pair _ _ _ _ _ _ _ _ _ _ _ _ _ _ _ _ _ _ (λ made. arc_value made.parts) _ _ _ first second
     (λ made a b. record {
       callable = (a.callable, b.callable);
