@@ -14,6 +14,23 @@ use http_header::ORIGIN;
 use http1_plain::{FieldValue, RequestHead};
 use std::alloc::{AllocError, Global};
 
+// The request's `Origin`.
+fn origin_in(head: &RequestHead) -> Option<&FieldValue>
+    ensures { option_copied result ≡ origin_of (view head.now) }
+{
+    head.headers.get(&ORIGIN)
+}
+
+// A copy of the value, which keeps no long text alive.
+fn detached(value: Option<&FieldValue>) -> Result<Option<FieldValue>, AllocError>
+    ensures { IfOk result (λ copy. copy ≡ option_copied value.entry) }
+{
+    match value {
+        None => Ok(None),
+        Some(value) => Ok(Some(value.detached()?)),
+    }
+}
+
 impl<G: OriginRule> Policy<G> {
     // Whether the finite set holds the origin.
     fn has_origin(&self, origin: &FieldValue) -> bool
@@ -70,7 +87,7 @@ impl<G: OriginRule> Policy<G> {
     pub fn validate_origin(&self, head: &RequestHead) -> Result<bool, CorsError>
         ensures { result ≡ validate_origin G.allowed self.now (view head.now) }
     {
-        self.validate_origin_value(head, head.headers.get(&ORIGIN))
+        self.validate_origin_value(head, origin_in(head))
     }
 
     // Whether a grant is written as `*`.
@@ -87,13 +104,14 @@ impl<G: OriginRule> Policy<G> {
         if self.writes_wildcard() {
             return Some(b"*");
         }
-        match head.headers.get(&ORIGIN) {
+        match origin_in(head) {
             Some(origin) => Some(origin.as_bytes()),
             None => None,
         }
     }
 
-    /// The value that a grant writes, for an answer to a request with this head and this `Origin`. It keeps no part of the head.
+    /// The value that a grant writes, for an answer to a request with this head and this `Origin`. An `Origin` of at most
+    /// 1,024 bytes is copied, so that the value keeps no part of the head; a longer one is shared with the request.
     pub fn grant_value(
         &self,
         alloc: Global,
@@ -106,9 +124,6 @@ impl<G: OriginRule> Policy<G> {
         if self.writes_wildcard() {
             return Ok(Some(literal(alloc, "*")?));
         }
-        match origin {
-            Some(origin) => Ok(Some(origin.detached()?)),
-            None => Ok(None),
-        }
+        detached(origin)
     }
 }

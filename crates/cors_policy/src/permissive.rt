@@ -13,10 +13,11 @@ impl<G: OriginRule> Policy<G> {
     pub fn permissive(alloc: Global) -> Result<Policy<G>, AllocError>
         ensures { IfOk result (λ policy. policy ≡ permissive.policy) }
     {
+        let methods = nine_methods(alloc)?;
         Ok(Policy {
             origins: AllOrSome::All,
             rules: Vec::new(alloc),
-            methods: nine_methods(alloc)?,
+            methods,
             headers: AllOrSome::All,
             exposed: AllOrSome::All,
             max_age: Some(3600),
