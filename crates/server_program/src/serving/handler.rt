@@ -17,15 +17,21 @@ fn hello_response(alloc: Global) -> Result<Response, AllocError>
     let mut response = Response::new(alloc, 200);
     response.set_static_body(b"Hello world!");
     let value = FieldValue::from_static(alloc, b"text/plain");
-    response.headers_mut().append(CONTENT_TYPE, value)?;
-    Ok(response)
+    match response.headers_mut().append(CONTENT_TYPE, value) {
+        Ok(()) => Ok(response),
+        Err(error) => {
+            drop(response);
+            Err(error)
+        }
+    }
 }
 
 fn peer_response(alloc: Global, peer: Peer) -> Result<Response, AllocError>
     ensures { IfOk result (λ response. response ≡ peer_response peer) }
 {
+    let body = peer_text(alloc, peer)?;
     let mut response = Response::new(alloc, 200);
-    response.set_body(peer_text(alloc, peer)?);
+    response.set_body(body);
     Ok(response)
 }
 

@@ -41,7 +41,9 @@ impl Service<Request> for HandlerService {
     }
 
     fn call(&self, req: Request) -> Ready<Result<Response, HandlerFault>> {
-        match answer(self.handler, self.alloc, &req) {
+        let answered = answer(self.handler, self.alloc, &req);
+        drop(req);
+        match answered {
             Ok(response) => ok(response),
             Err(fault) => err(fault),
         }
