@@ -2,7 +2,7 @@
 use Rattle.std.proofs.Common.{◌≡◌, ◌+◌, ℕ, true, Result, Ok, Err, is_ok, false, List, [], ◌∷◌, ◌++◌, length, get_or, map, arith, sym, ap, ◌∙◌, refl, append_assoc, Bor, ne_eqb, length-append, eqb-true, inl, inr, is_eq, is_lt, Ordering, Less, Equal, Greater, IsSortedBy}
 use Rattle.std.specs.Prelude.{◌==◌}
 use Rattle.std.proofs.lemmas.Bool.{cases_lt}
-use Rattle.std.proofs.lemmas.List.{map_push}
+use Rattle.std.proofs.lemmas.List.{append-nil, map_push}
 use Rattle.std.proofs.lemmas.List.Folds.{list_any_at, list_any_none, map_fixed}
 use Rattle.std.proofs.lemmas.List.Sums.{AllPass-from_list_all}
 use Rattle.std.proofs.lemmas.List.Sorted.{searchable_from_sorted}
@@ -30,11 +30,16 @@ joined_more text next (other ∷ set) =
     ap (λ ts. text ++ codes ", " ++ ts) (joined_more other next set)
     ∙ simp append_assoc
 
-pub joined_next : (set : Texts) (next : List ℕ) → joined (set ++ next ∷ []) ≡ and_joined (length set == 0) (joined set) next
-joined_next [] next = refl
-joined_next (text ∷ set) next =
-    joined_more text next set
-    ∙ ap (λ b. and_joined b (joined (text ∷ set)) next) (sym (ne_eqb (length (text ∷ set)) 0 (omega arith)))
+-- one more text, behind what stood before the first
+pub joined_behind : (before : List ℕ) (set : Texts) (next : List ℕ)
+    → before ++ joined (set ++ next ∷ []) ≡ and_joined (length set == 0) (before ++ joined set) next
+joined_behind before [] next = ap (λ bytes. bytes ++ next) (sym (append-nil before))
+joined_behind before (text ∷ set) next =
+    let more : before ++ joined ((text ∷ set) ++ next ∷ []) ≡ before ++ joined (text ∷ set) ++ codes ", " ++ next =
+    ap (λ bytes. before ++ bytes) (joined_more text next set) ∙ simp append_assoc
+    in
+    more
+    ∙ ap (λ b. and_joined b (before ++ joined (text ∷ set)) next) (sym (ne_eqb (length (text ∷ set)) 0 (omega arith)))
 
 pub texts_more : (refs : List (Bor (List ℕ))) (r : Bor (List ℕ)) → texts_of (refs ++ r ∷ []) ≡ texts_of refs ++ r.now ∷ []
 texts_more refs r = map_push (λ (r : Bor (List ℕ)). r.now) refs r

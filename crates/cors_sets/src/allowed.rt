@@ -1,13 +1,29 @@
 //! Everything, or a finite set.
-ghost use Rattle.std.specs.Prelude.{◌≡◌, IfOk, OnOk};
+ghost use Rattle.std.specs.Prelude.{◌≡◌, [], IfOk, OnOk};
 ghost use Rattle.cors_rules.specs.Allowed.{some_of};
 ghost use Rattle.cors_rules.specs.Building.{and_text};
 ghost use Rattle.cors_rules.specs.Equality.{some_eq};
+ghost use Rattle.cors_rules.specs.Sets.{with};
 
 use crate::text_set::TextSet;
 use cors_rules::AllOrSome;
 use http1_plain::FieldValue;
 use std::alloc::{AllocError, Global};
+use std::mem::replace;
+
+// A set of one text.
+fn set_of(alloc: Global, text: FieldValue) -> Result<TextSet, AllocError>
+    ensures { IfOk result (λ set. set ≡ with [] text) }
+{
+    let mut set = TextSet::new(alloc);
+    match set.insert(text) {
+        Ok(()) => Ok(set),
+        Err(error) => {
+            drop(set);
+            Err(error)
+        }
+    }
+}
 
 /// The text becomes a member: the first one after everything starts an empty set.
 pub fn allow_text(
@@ -20,9 +36,8 @@ pub fn allow_text(
     match set {
         AllOrSome::Some(texts) => texts.insert(text),
         AllOrSome::All => {
-            let mut texts = TextSet::new(alloc);
-            texts.insert(text)?;
-            *set = AllOrSome::Some(texts);
+            let texts = set_of(alloc, text)?;
+            drop(replace(set, AllOrSome::Some(texts)));
             Ok(())
         }
     }

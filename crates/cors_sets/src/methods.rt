@@ -1,5 +1,5 @@
 //! The methods of HTTP.
-ghost use Rattle.std.specs.Prelude.{◌≡◌, true, [], fold, IfOk};
+ghost use Rattle.std.specs.Prelude.{◌≡◌, true, fold, IfOk, OnOk};
 ghost use Rattle.std.specs.List.{list_all};
 ghost use Rattle.http1_plain.specs.Fields.{is_field_byte};
 ghost use Rattle.cors_rules.specs.Building.{nine_methods};
@@ -9,17 +9,25 @@ use crate::text_set::TextSet;
 use crate::values::literal;
 use std::alloc::{AllocError, Global};
 
-// The set of the texts.
-#[tactic(auto, using(std::proofs::lemmas::List::Sums::fold_more))]
-fn set_of(alloc: Global, texts: &[&'static str]) -> Result<TextSet, AllocError>
-    requires { list_all (λ text. list_all is_field_byte text.now) texts.now ≡ true }
-    ensures { IfOk result (λ set. set ≡ fold (λ set text. with set text.now) [] texts.now) }
+// The text becomes a member.
+fn add(set: &mut TextSet, text: &'static str) -> Result<(), AllocError>
+    requires { list_all is_field_byte text.now ≡ true }
+    ensures { OnOk result (set.new ≡ with set.old text.now) }
 {
-    let mut set = TextSet::new(alloc);
+    let text = literal(set.allocator(), text)?;
+    set.insert(text)
+}
+
+// Each text becomes a member.
+#[tactic(auto, using(std::proofs::lemmas::List::Sums::fold_more))]
+fn add_all(set: &mut TextSet, texts: &[&'static str]) -> Result<(), AllocError>
+    requires { list_all (λ text. list_all is_field_byte text.now) texts.now ≡ true }
+    ensures { OnOk result (set.new ≡ fold (λ set text. with set text.now) set.old texts.now) }
+{
     for text in texts {
-        set.insert(literal(alloc, text)?)?;
+        add(set, text)?;
     }
-    Ok(set)
+    Ok(())
 }
 
 /// CONNECT, DELETE, GET, HEAD, OPTIONS, PATCH, POST, PUT and TRACE.
@@ -29,5 +37,12 @@ pub fn nine_methods(alloc: Global) -> Result<TextSet, AllocError>
     let methods = [
         "CONNECT", "DELETE", "GET", "HEAD", "OPTIONS", "PATCH", "POST", "PUT", "TRACE",
     ];
-    set_of(alloc, &methods)
+    let mut set = TextSet::new(alloc);
+    match add_all(&mut set, &methods) {
+        Ok(()) => Ok(set),
+        Err(error) => {
+            drop(set);
+            Err(error)
+        }
+    }
 }

@@ -36,7 +36,10 @@ pub fn is_uri(alloc: Global, text: &str) -> Result<bool, AllocError>
     ensures { IfOk result (λ b. b ≡ is_uri text.now) }
 {
     match Uri::from_str(alloc, text) {
-        Ok(_) => Ok(true),
+        Ok(uri) => {
+            drop(uri);
+            Ok(true)
+        }
         Err(UriError::Invalid(_)) => Ok(false),
         Err(UriError::OutOfMemory) => Err(AllocError),
     }

@@ -1,7 +1,8 @@
 //! Texts in a row, to be searched for bytes of a request.
-ghost use Rattle.std.specs.Prelude.{◌≡◌, IfOk};
+ghost use Rattle.std.specs.Prelude.{◌≡◌, ◌++◌, IfOk, OnOk};
 ghost use Rattle.std.specs.Prelude.{◌==◌};
 ghost use Rattle.std.specs.List.{list_all};
+ghost use Rattle.std.specs.List.Sorted.{IsStrictlySortedBy};
 ghost use Rattle.std.specs.Char.{to_ascii_lowercase};
 ghost use Rattle.std.specs.Ordering.{nat_cmp};
 ghost use Rattle.std.specs.Cmp.Lexicographic.{slice_cmp};
@@ -53,16 +54,31 @@ fn is_lower(name: &[u8]) -> bool
     name.iter().all(|b| b.to_ascii_lowercase() == *b)
 }
 
+// Appends a copy of each member of the set.
+#[tactic(auto, using(crate::proofs::SetSteps::texts_more, std::proofs::Common::append_assoc))]
+fn push_copies(row: &mut Vec<FieldValue>, texts: &BTreeSet<FieldValue>) -> Result<(), AllocError>
+    ensures copied { OnOk result (row.new.items ≡ row.old.items ++ texts.now.keys) }
+    ensures sorted { IsStrictlySortedBy (slice_cmp nat_cmp) texts.now.keys }
+{
+    for text in texts.iter() {
+        row.push(text.copy()?)?;
+    }
+    Ok(())
+}
+
 impl SortedTexts {
     /// The members of the set.
     pub fn of(alloc: Global, texts: &BTreeSet<FieldValue>) -> Result<SortedTexts, AllocError>
         ensures { IfOk result (λ row. row ≡ texts.now.keys) }
     {
         let mut row = Vec::new(alloc);
-        for text in texts.iter() {
-            row.push(text.copy()?)?;
+        match push_copies(&mut row, texts) {
+            Ok(()) => Ok(SortedTexts { row }),
+            Err(error) => {
+                drop(row);
+                Err(error)
+            }
         }
-        Ok(SortedTexts { row })
     }
 
     /// Whether the text is a member, by a search where the row is long. Among few texts most differ in their lengths.

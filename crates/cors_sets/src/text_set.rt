@@ -11,6 +11,7 @@ use http1_plain::FieldValue;
 use std::alloc::{AllocError, Global};
 use std::collections::BTreeSet;
 use std::marker::Model;
+use std::mem::replace;
 
 /// A finite set of texts that may stand in a header. A contract sees its members in the order of their bytes.
 #[derive(Drop)]
@@ -54,6 +55,18 @@ fn push_joined(text: &mut FieldValue, is_first: bool, next: &FieldValue) -> Resu
     text.push_value(next)
 }
 
+// Appends the members, with `, ` between them.
+fn push_members(text: &mut FieldValue, members: &BTreeSet<FieldValue>) -> Result<(), AllocError>
+    ensures { OnOk result (text.new ≡ text.old ++ joined members.now.keys) }
+{
+    let mut is_first = true;
+    for member in members.iter() {
+        push_joined(text, is_first, member)?;
+        is_first = false;
+    }
+    Ok(())
+}
+
 // Whether the text is the name in lower case.
 #[tactic(auto, using(crate::proofs::SetSteps::told_equal))]
 fn is_lowered(text: &[u8], name: &[u8]) -> bool
@@ -92,8 +105,8 @@ impl TextSet {
         ensures ok { OnOk result (self.new ≡ with self.old text) }
         ensures err { OnErr result (self.new ≡ self.old) }
     {
-        self.text = None;
-        self.row = None;
+        drop(replace(&mut self.text, None));
+        drop(replace(&mut self.row, None));
         self.texts.insert(text)?;
         Ok(())
     }
@@ -151,12 +164,13 @@ impl TextSet {
         ensures { IfOk result (λ text. text ≡ joined self.now) }
     {
         let mut text = FieldValue::empty(alloc);
-        let mut is_first = true;
-        for member in self.texts.iter() {
-            push_joined(&mut text, is_first, member)?;
-            is_first = false;
+        match push_members(&mut text, &self.texts) {
+            Ok(()) => Ok(text),
+            Err(error) => {
+                drop(text);
+                Err(error)
+            }
         }
-        Ok(text)
     }
 
     /// An equal set.
@@ -171,24 +185,51 @@ impl TextSet {
         })
     }
 
+    // The members joined, in a text that its copies share.
+    fn joined_shared(&self) -> Result<FieldValue, AllocError>
+        ensures { IfOk result (λ text. text ≡ joined self.now) }
+    {
+        self.joined(self.alloc)?.into_shared()
+    }
+
     /// An equal set, whose members are joined once for all times that they are asked for.
     pub fn copy_joined(&self) -> Result<TextSet, AllocError>
         ensures { IfOk result (λ copy. copy ≡ self.now) }
     {
-        let text = self.joined(self.alloc)?.into_shared()?;
-        Ok(TextSet {
-            alloc: self.alloc,
-            texts: self.texts.clone()?,
-            text: Some(text),
-            row: None,
-        })
+        let text = self.joined_shared()?;
+        match self.texts.clone() {
+            Ok(texts) => Ok(TextSet {
+                alloc: self.alloc,
+                texts,
+                text: Some(text),
+                row: None,
+            }),
+            Err(error) => {
+                drop(text);
+                Err(error)
+            }
+        }
+    }
+
+    // Its members stand in a row besides.
+    fn add_row(&mut self) -> Result<(), AllocError>
+        ensures { OnOk result (self.new ≡ self.old) }
+    {
+        let row = SortedTexts::of(self.alloc, &self.texts)?;
+        drop(replace(&mut self.row, Some(row)));
+        Ok(())
     }
 
     /// The same set, whose members stand in a row besides, in which they are searched.
     pub fn in_row(mut self) -> Result<TextSet, AllocError>
         ensures { IfOk result (λ set. set ≡ self) }
     {
-        self.row = Some(SortedTexts::of(self.alloc, &self.texts)?);
-        Ok(self)
+        match self.add_row() {
+            Ok(()) => Ok(self),
+            Err(error) => {
+                drop(self);
+                Err(error)
+            }
+        }
     }
 }

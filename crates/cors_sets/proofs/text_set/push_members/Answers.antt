@@ -1,12 +1,12 @@
-use Rattle.cors_sets.proofs.SetSteps.{texts_of, joined_next, texts_more, texts_some}
-use Rattle.cors_sets.proofs.text_set.TextSet.join.Goals as goal
+use Rattle.cors_sets.proofs.SetSteps.{texts_of, joined_behind, texts_more, texts_some}
+use Rattle.cors_sets.proofs.text_set.push_members.Goals as goal
 
 pub loop-member-preserved : goal.loop-member-preserved
 loop-member-preserved c = record {
   text =
       rw (
         texts_more c.loop-member.yielded c.in-Some.member,
-        joined_next (texts_of c.loop-member.yielded) c.in-Some.member.now,
+        joined_behind c.args.text.now (texts_of c.loop-member.yielded) c.in-Some.member.now,
         ← c.loop-member.invariant.text,
         ← c.loop-member.invariant.first,
       )

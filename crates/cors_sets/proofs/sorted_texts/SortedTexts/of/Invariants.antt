@@ -1,6 +1,0 @@
-use Rattle.std.proofs.Common.{◌≡◌}
-use Rattle.cors_sets.proofs.SetSteps.{texts_of}
-use Rattle.cors_sets.proofs.sorted_texts.SortedTexts.of.Given as goal
-
-abbrev pub invariant-loop-text : goal.invariant-loop-text
-invariant-loop-text l = l.row.items ≡ texts_of l.yielded
