@@ -1,11 +1,12 @@
 //! The future of a request under a policy.
-ghost use Rattle.std.specs.Prelude.{◌≡◌, IsSome, Some};
+ghost use Rattle.std.specs.Prelude.{◌≡◌, IsSome, Some, Ok, Err, IfOk, OnErr};
 ghost use Rattle.std.specs.Arc.{arc_value};
 ghost use Rattle.futures.specs.Poll.{OnPending};
 ghost use Rattle.service_core.specs.Polls.{Polls};
 ghost use Rattle.cors_answer.specs.Meaning.{Augments, OrMemory, Wraps};
 ghost use Rattle.cors_answer.specs.Waiting.{Waited};
 ghost use Rattle.cors_answer.specs.declared.future.State.TheVariants.{Here, Waiting, Done};
+ghost use Rattle.cors_answer.specs.declared.fault.CorsFault.TheVariants.{Answered, Memory};
 
 use crate::fault::CorsFault;
 use cors_policy::{Policy, augment_response_headers};
@@ -13,7 +14,8 @@ use futures::Future;
 use futures::task::{Context, Poll};
 use http1_plain::{ErrorResponse, FieldValue, Response};
 use service_core::Watched;
-use std::alloc::Global;
+use std::alloc::{AllocError, Global};
+use std::mem::replace;
 use std::sync::Arc;
 
 /// Future for `CorsMiddleware`.
@@ -50,6 +52,28 @@ impl<Fut, G> CorsFuture<Fut, G> {
     }
 }
 
+// The response, unless memory ran out.
+fn or_memory(response: Result<Response, AllocError>) -> Result<Response, CorsFault>
+    ensures ok { IfOk response (λ written. result ≡ Ok written) }
+    ensures err { OnErr response (result ≡ Err Memory) }
+{
+    match response {
+        Ok(response) => Ok(response),
+        Err(_) => Err(CorsFault::Memory),
+    }
+}
+
+// The error that answers with the response, unless memory ran out.
+fn as_error(response: Result<Response, AllocError>) -> Result<Response, CorsFault>
+    ensures ok { IfOk response (λ written. result ≡ Err (Answered written)) }
+    ensures err { OnErr response (result ≡ Err Memory) }
+{
+    match response {
+        Ok(response) => Err(CorsFault::Answered(response)),
+        Err(_) => Err(CorsFault::Memory),
+    }
+}
+
 // The inner service's result, with what the policy writes.
 fn wrapped<G, E: ErrorResponse>(
     alloc: Global,
@@ -60,16 +84,13 @@ fn wrapped<G, E: ErrorResponse>(
     ensures { OrMemory (Augments E.response policy.now grant outcome result) result }
 {
     match outcome {
-        Ok(response) => match augment_response_headers(policy, grant, response) {
-            Ok(response) => Ok(response),
-            Err(_) => Err(CorsFault::Memory),
-        },
+        Ok(response) => or_memory(augment_response_headers(policy, grant, response)),
         Err(error) => match error.into_response(alloc) {
-            Err(_) => Err(CorsFault::Memory),
-            Ok(response) => match augment_response_headers(policy, grant, response) {
-                Ok(response) => Err(CorsFault::Answered(response)),
-                Err(_) => Err(CorsFault::Memory),
-            },
+            Ok(response) => as_error(augment_response_headers(policy, grant, response)),
+            Err(_) => {
+                drop(grant);
+                Err(CorsFault::Memory)
+            }
         },
     }
 }
@@ -109,7 +130,7 @@ where
                 Poll::Pending => Poll::Pending,
                 Poll::Ready(outcome) => {
                     let answer = wrapped(self.alloc, policy, grant.take(), outcome);
-                    self.state = State::Done;
+                    drop(replace(&mut self.state, State::Done));
                     Poll::Ready(answer)
                 }
             },

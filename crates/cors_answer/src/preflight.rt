@@ -3,23 +3,34 @@ ghost use Rattle.std.specs.Prelude.{◌≡◌, ◌++◌, [], IfOk, OnOk, codes, 
 ghost use Rattle.http1_plain.specs.Views.{view};
 ghost use Rattle.cors_rules.specs.Sets.{joined_some};
 ghost use Rattle.cors_rules.specs.Origins.{granted_value};
-ghost use Rattle.cors_rules.specs.Requested.{asked_headers};
+ghost use Rattle.cors_rules.specs.Requested.{asked_headers, validate_allowed_method, validate_allowed_headers};
 ghost use Rattle.cors_rules.specs.Fields.{allowed_value, field, vary, when};
-ghost use Rattle.cors_rules.specs.Answers.{preflight_check, preflight_headers, preflight};
+ghost use Rattle.cors_rules.specs.Answers.{and_then, preflight_check, preflight_headers, preflight};
 
 use crate::refusal::CorsRefusal;
+use crate::verdict::origin_in;
 use cors_policy::{OriginRule, Policy, push_field, true_where, vary_where};
 use cors_rules::{AllOrSome, CorsError};
-use cors_sets::number_value;
+use cors_sets::{TextSet, number_value};
 use http_header::{
     ACCESS_CONTROL_ALLOW_CREDENTIALS, ACCESS_CONTROL_ALLOW_HEADERS, ACCESS_CONTROL_ALLOW_METHODS,
-    ACCESS_CONTROL_ALLOW_ORIGIN, ACCESS_CONTROL_MAX_AGE, ACCESS_CONTROL_REQUEST_HEADERS, ORIGIN,
+    ACCESS_CONTROL_ALLOW_ORIGIN, ACCESS_CONTROL_MAX_AGE, ACCESS_CONTROL_REQUEST_HEADERS,
 };
 use http1_plain::{ErrorResponse, FieldValue, HeaderList, RequestHead, Response};
 use std::alloc::{AllocError, Global};
 
 // How many fields an answer to a preflight has at most.
 const MOST_FIELDS: usize = 6;
+
+// Method and headers of a preflight, in this order.
+fn check_asked<G: OriginRule>(policy: &Policy<G>, head: &RequestHead) -> Result<(), CorsError>
+    ensures { result ≡ and_then (validate_allowed_method policy.now (view head.now)) (validate_allowed_headers policy.now (view head.now)) }
+{
+    match policy.validate_allowed_method(head) {
+        Err(error) => Err(error),
+        Ok(()) => policy.validate_allowed_headers(head),
+    }
+}
 
 // Origin, method and headers of a preflight, in this order.
 fn check_preflight<G: OriginRule>(policy: &Policy<G>, head: &RequestHead) -> Result<(), CorsError>
@@ -28,29 +39,44 @@ fn check_preflight<G: OriginRule>(policy: &Policy<G>, head: &RequestHead) -> Res
     match policy.validate_origin(head) {
         Err(error) => Err(error),
         Ok(false) => Err(CorsError::OriginNotAllowed),
-        Ok(true) => match policy.validate_allowed_method(head) {
-            Err(error) => Err(error),
-            Ok(()) => policy.validate_allowed_headers(head),
-        },
+        Ok(true) => check_asked(policy, head),
     }
 }
 
-// The request headers that the answer names.
-fn allowed_value<G>(
-    policy: &Policy<G>,
+// The headers that the request will have.
+fn asked_headers(head: &RequestHead) -> Option<&FieldValue>
+    ensures { option_copied result ≡ asked_headers (view head.now) }
+{
+    head.headers.get(&ACCESS_CONTROL_REQUEST_HEADERS)
+}
+
+// A copy of the value, which keeps no long text alive.
+fn detached(value: Option<&FieldValue>) -> Result<Option<FieldValue>, AllocError>
+    ensures { IfOk result (λ copy. copy ≡ option_copied value.entry) }
+{
+    match value {
+        None => Ok(None),
+        Some(value) => Ok(Some(value.detached()?)),
+    }
+}
+
+// The request headers that the answer names: the finite set, or else what was asked for.
+fn allowed_value(
+    names: &AllOrSome<TextSet>,
     alloc: Global,
     asked: Option<&FieldValue>,
 ) -> Result<Option<FieldValue>, AllocError>
-    ensures { IfOk result (λ value. value ≡ allowed_value policy.now.headers (option_copied asked.entry)) }
+    ensures { IfOk result (λ value. value ≡ allowed_value names.now (option_copied asked.entry)) }
 {
-    if let AllOrSome::Some(names) = &policy.headers {
-        if !names.is_empty() {
-            return names.joined_some(alloc);
+    match names {
+        AllOrSome::All => detached(asked),
+        AllOrSome::Some(names) => {
+            if names.is_empty() {
+                detached(asked)
+            } else {
+                names.joined_some(alloc)
+            }
         }
-    }
-    match asked {
-        None => Ok(None),
-        Some(asked) => Ok(Some(asked.detached()?)),
     }
 }
 
@@ -73,7 +99,7 @@ fn push_origin<G: OriginRule>(
 ) -> Result<(), AllocError>
     ensures { OnOk result (headers.new ≡ headers.old ++ field (codes "access-control-allow-origin") (granted_value policy.now (view head.now))) }
 {
-    let origin = policy.grant_value(alloc, head, head.headers.get(&ORIGIN))?;
+    let origin = policy.grant_value(alloc, head, origin_in(head))?;
     push_field(headers, ACCESS_CONTROL_ALLOW_ORIGIN, origin)
 }
 
@@ -98,9 +124,28 @@ fn push_names<G: OriginRule>(
 ) -> Result<(), AllocError>
     ensures { OnOk result (headers.new ≡ headers.old ++ field (codes "access-control-allow-headers") (allowed_value policy.now.headers (asked_headers (view head.now)))) }
 {
-    let asked = head.headers.get(&ACCESS_CONTROL_REQUEST_HEADERS);
-    let names = allowed_value(policy, alloc, asked)?;
+    let names = allowed_value(&policy.headers, alloc, asked_headers(head))?;
     push_field(headers, ACCESS_CONTROL_ALLOW_HEADERS, names)
+}
+
+// Appends whether credentials may be sent.
+fn push_credentials(
+    alloc: Global,
+    credentials: bool,
+    headers: &mut HeaderList,
+) -> Result<(), AllocError>
+    ensures { OnOk result (headers.new ≡ headers.old ++ field (codes "access-control-allow-credentials") (when credentials (codes "true"))) }
+{
+    let credentials = true_where(alloc, credentials)?;
+    push_field(headers, ACCESS_CONTROL_ALLOW_CREDENTIALS, credentials)
+}
+
+// Appends how long the answer may be kept.
+fn push_age(alloc: Global, max_age: Option<u64>, headers: &mut HeaderList) -> Result<(), AllocError>
+    ensures { OnOk result (headers.new ≡ headers.old ++ field (codes "access-control-max-age") (option_map decimal max_age)) }
+{
+    let age = age_value(alloc, max_age)?;
+    push_field(headers, ACCESS_CONTROL_MAX_AGE, age)
 }
 
 // Appends whether credentials may be sent, and how long the answer may be kept.
@@ -112,10 +157,8 @@ fn push_flags<G: OriginRule>(
 ) -> Result<(), AllocError>
     ensures { OnOk result (headers.new ≡ headers.old ++ (field (codes "access-control-allow-credentials") (when policy.now.credentials (codes "true")) ++ field (codes "access-control-max-age") (option_map decimal policy.now.max_age))) }
 {
-    let credentials = true_where(alloc, policy.credentials)?;
-    push_field(headers, ACCESS_CONTROL_ALLOW_CREDENTIALS, credentials)?;
-    let age = age_value(alloc, policy.max_age)?;
-    push_field(headers, ACCESS_CONTROL_MAX_AGE, age)
+    push_credentials(alloc, policy.credentials, headers)?;
+    push_age(alloc, policy.max_age, headers)
 }
 
 // Appends the headers of the answer, in their order.
@@ -134,6 +177,28 @@ fn push_headers<G: OriginRule>(
     push_flags(policy, alloc, headers)
 }
 
+// Writes the headers of the answer, and what it depends on.
+fn write_headers<G: OriginRule>(
+    policy: &Policy<G>,
+    alloc: Global,
+    head: &RequestHead,
+    headers: &mut HeaderList,
+) -> Result<(), AllocError>
+    ensures { OnOk result (headers.new ≡ vary policy.now (headers.old ++ preflight_headers policy.now (view head.now))) }
+{
+    push_headers(policy, alloc, head, headers)?;
+    vary_where(policy, headers)
+}
+
+// A response with these headers.
+fn response_of(alloc: Global, headers: HeaderList) -> Response
+    ensures { result ≡ record { status = 200; headers = headers; body = [] } }
+{
+    let mut response = Response::new(alloc, 200);
+    response.set_headers(headers);
+    response
+}
+
 // The answer where the check passed.
 fn passed_preflight<G: OriginRule>(
     policy: &Policy<G>,
@@ -143,11 +208,13 @@ fn passed_preflight<G: OriginRule>(
     ensures { IfOk result (λ r. r ≡ record { status = 200; headers = vary policy.now (preflight_headers policy.now (view head.now)); body = [] }) }
 {
     let mut headers = HeaderList::with_capacity(alloc, MOST_FIELDS)?;
-    push_headers(policy, alloc, head, &mut headers)?;
-    vary_where(policy, &mut headers)?;
-    let mut response = Response::new(alloc, 200);
-    response.set_headers(headers);
-    Ok(response)
+    match write_headers(policy, alloc, head, &mut headers) {
+        Ok(()) => Ok(response_of(alloc, headers)),
+        Err(error) => {
+            drop(headers);
+            Err(error)
+        }
+    }
 }
 
 // The answer to a preflight.

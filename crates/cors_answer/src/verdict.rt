@@ -1,7 +1,7 @@
 //! What becomes of a request.
 ghost use Rattle.std.specs.Prelude.{◌≡◌, [], IfOk, option_copied};
 ghost use Rattle.http1_plain.specs.Views.{view};
-ghost use Rattle.cors_rules.specs.Answers.{verdict, by_grant, judged, refused};
+ghost use Rattle.cors_rules.specs.Answers.{verdict, answered, by_grant, judged, refused};
 ghost use Rattle.cors_rules.specs.Origins.{origin_of};
 ghost use Rattle.cors_rules.specs.Fields.{vary};
 ghost use Rattle.cors_answer.specs.Verdicts.{verdict_of};
@@ -21,6 +21,13 @@ pub enum Verdict {
     Answered(Response),
     /// To the inner service, with the value of the grant, where there is one.
     HandedOn(Option<FieldValue>),
+}
+
+// The request's `Origin`.
+pub(crate) fn origin_in(head: &RequestHead) -> Option<&FieldValue>
+    ensures { option_copied result ≡ origin_of (view head.now) }
+{
+    head.headers.get(&ORIGIN)
 }
 
 // Whether the origin is granted; a request with no `Origin` asks for no grant.
@@ -47,8 +54,20 @@ pub(crate) fn blocked<G>(
     ensures { IfOk result (λ r. r ≡ record (refused error) { headers = vary policy.now [] }) }
 {
     let mut response = CorsRefusal { error }.into_response(alloc)?;
-    vary_where(policy, response.headers_mut())?;
-    Ok(response)
+    match vary_where(policy, response.headers_mut()) {
+        Ok(()) => Ok(response),
+        Err(error) => {
+            drop(response);
+            Err(error)
+        }
+    }
+}
+
+// The verdict on a request whose origin was refused.
+fn refused<G>(policy: &Policy<G>, alloc: Global, error: CorsError) -> Result<Verdict, AllocError>
+    ensures { IfOk result (λ v. verdict_of v ≡ answered (record (refused error) { headers = vary policy.now [] })) }
+{
+    Ok(Verdict::Answered(blocked(policy, alloc, error)?))
 }
 
 fn by_grant<G: OriginRule>(
@@ -59,9 +78,9 @@ fn by_grant<G: OriginRule>(
     ensures { IfOk result (λ v. verdict_of v
         ≡ by_grant policy.now (view head.now) (judged G.allowed policy.now (view head.now))) }
 {
-    let origin = head.headers.get(&ORIGIN);
+    let origin = origin_in(head);
     match judge(policy, head, origin) {
-        Err(error) => Ok(Verdict::Answered(blocked(policy, alloc, error)?)),
+        Err(error) => refused(policy, alloc, error),
         Ok(true) => Ok(Verdict::HandedOn(policy.grant_value(alloc, head, origin)?)),
         Ok(false) => Ok(Verdict::HandedOn(None)),
     }

@@ -5,8 +5,16 @@ ghost use Rattle.cors_rules.specs.Building.{set_policy, nine_methods};
 use crate::cors::Cors;
 use cors_policy::OriginRule;
 use cors_rules::AllOrSome;
-use cors_sets::nine_methods;
+use cors_sets::{TextSet, nine_methods};
 use std::alloc::AllocError;
+use std::mem::replace;
+
+// Everything is allowed.
+fn allow_all(set: &mut AllOrSome<TextSet>)
+    ensures { set.new ≡ AllOrSome.All }
+{
+    drop(replace(set, AllOrSome::All));
+}
 
 impl<G: OriginRule> Cors<G> {
     /// All origins are allowed.
@@ -16,7 +24,7 @@ impl<G: OriginRule> Cors<G> {
         if self.error.is_some() {
             return self;
         }
-        self.policy.origins = AllOrSome::All;
+        allow_all(&mut self.policy.origins);
         self
     }
 
@@ -27,7 +35,7 @@ impl<G: OriginRule> Cors<G> {
         if self.error.is_some() {
             return self;
         }
-        self.policy.headers = AllOrSome::All;
+        allow_all(&mut self.policy.headers);
         self
     }
 
@@ -38,7 +46,7 @@ impl<G: OriginRule> Cors<G> {
         if self.error.is_some() {
             return self;
         }
-        self.policy.exposed = AllOrSome::All;
+        allow_all(&mut self.policy.exposed);
         self
     }
 
@@ -115,7 +123,8 @@ impl<G: OriginRule> Cors<G> {
         if self.error.is_some() {
             return Ok(());
         }
-        self.policy.methods = nine_methods(self.alloc)?;
+        let methods = nine_methods(self.alloc)?;
+        drop(replace(&mut self.policy.methods, methods));
         Ok(())
     }
 

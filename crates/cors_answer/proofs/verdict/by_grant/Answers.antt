@@ -1,0 +1,5 @@
+use Rattle.std.proofs.Common.{rules}
+use Rattle.cors_answer.proofs.verdict.by_grant.Goals as goal
+
+pub returns-in-Err : goal.returns-in-Err
+returns-in-Err g c = search rules
