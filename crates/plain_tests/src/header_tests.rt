@@ -309,3 +309,16 @@ fn three_lose_only_named(alloc: Global) -> Result<bool, AllocError> {
 fn headers_of_a_name_go(rt: HostRuntime) -> Result<(), Fail> {
     holds(&rt, three_lose_only_named(rt.alloc()))
 }
+
+// Whether a list that was made with room has nothing in it.
+fn is_empty_with_room(alloc: Global) -> Result<bool, AllocError> {
+    let list = HeaderList::with_capacity(alloc, 3)?;
+    let shown = list.is_empty() && list.len() == 0;
+    drop(list);
+    Ok(shown)
+}
+
+#[test]
+fn a_list_with_room_is_empty(rt: HostRuntime) -> Result<(), Fail> {
+    holds(&rt, is_empty_with_room(rt.alloc()))
+}

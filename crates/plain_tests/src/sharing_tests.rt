@@ -187,3 +187,22 @@ fn a_static_body_is_written(alloc: Global) -> Result<bool, AllocError> {
 fn a_body_of_the_program_is_written(rt: HostRuntime) -> Result<(), Fail> {
     holds(&rt, a_static_body_is_written(rt.alloc()))
 }
+
+fn is_of_few(value: &Option<FieldValue>, bytes: &[u8]) -> bool {
+    match value {
+        Some(value) => is(value, bytes),
+        None => false,
+    }
+}
+
+// Whether 24 bytes are few, and one more are not.
+fn few_are_24(alloc: Global) -> bool {
+    let few = FieldValue::of_few_bytes(alloc, b"twenty-four bytes are fe");
+    let more = FieldValue::of_few_bytes(alloc, b"twenty-five bytes are not");
+    is_of_few(&few, b"twenty-four bytes are fe") && more.is_none()
+}
+
+#[test]
+fn few_bytes_lie_in_the_value_itself(rt: HostRuntime) -> Result<(), Fail> {
+    holds(&rt, Ok(few_are_24(rt.alloc())))
+}
