@@ -14,7 +14,7 @@ use std::marker::Model;
 ///
 /// A contract sees its limits, the bytes that no step has used, and where it stands: at a head, in a body of some length,
 /// in the chunks of a body behind some data, or behind a refusal. What it answers is what these bytes decide, however they
-/// came. It looks at each byte of a head about three times, also where bytes come one by one, and decodes chunks once.
+/// came. A search for the end of a head goes on where it stopped, and chunks are decoded on behind those of earlier steps.
 #[derive(Drop)]
 pub struct Reader {
     state: ReaderState,
