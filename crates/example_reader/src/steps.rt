@@ -50,7 +50,8 @@ fn push_status(text: &mut String, status: u16) -> Result<(), AllocError> {
     match status {
         400 => text.push_str("refused 400\n"),
         413 => text.push_str("refused 413\n"),
-        _ => text.push_str("refused 431\n"),
+        431 => text.push_str("refused 431\n"),
+        _ => text.push_str("refused by another status\n"),
     }
 }
 

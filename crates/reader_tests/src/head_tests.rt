@@ -1,8 +1,8 @@
 //! What a head asks of its connection.
 use crate::shown::{hold, holds};
 use http1_head::{
-    BodyFraming, NextHead, closes, empty_line, empty_lines, expects, head_size_from, next_head,
-    upgrades,
+    BodyFraming, NextHead, closes, empty_line, empty_lines, expects, head_at_front, head_size_from,
+    next_head, upgrades,
 };
 use http1_plain::{Limits, Request, RequestHead};
 use service_core::{Octets, Peer};
@@ -192,4 +192,22 @@ fn copies(alloc: Global) -> Result<bool, AllocError> {
 #[test]
 fn a_copied_request_is_equal(rt: HostRuntime) -> Result<(), Fail> {
     holds(&rt, copies(rt.alloc()))
+}
+
+// Whether the head at the front is cut, where none of it was looked at before.
+#[tactic(auto, using(http1_head::proofs::PassingSteps::unseen))]
+fn is_cut_at_front(alloc: Global) -> Result<bool, AllocError> {
+    match head_at_front(alloc, Limits::default(), b"GET / HTTP/1.1\r\n\r\nGET", 0) {
+        Ok(next) => {
+            let shown = framed_by(&next, BodyFraming::Sized(0));
+            drop(next);
+            Ok(shown)
+        }
+        Err(error) => Err(error),
+    }
+}
+
+#[test]
+fn a_head_at_the_front_is_cut(rt: HostRuntime) -> Result<(), Fail> {
+    holds(&rt, is_cut_at_front(rt.alloc()))
 }
