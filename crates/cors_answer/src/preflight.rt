@@ -8,8 +8,7 @@ ghost use Rattle.cors_rules.specs.Fields.{allowed_value, field, vary, when};
 ghost use Rattle.cors_rules.specs.Answers.{and_then, preflight_check, preflight_headers, preflight};
 
 use crate::refusal::CorsRefusal;
-use crate::verdict::origin_in;
-use cors_policy::{OriginRule, Policy, push_field, true_where, vary_where};
+use cors_policy::{OriginRule, Policy, detached, origin_in, push_field, true_where, vary_where};
 use cors_rules::{AllOrSome, CorsError};
 use cors_sets::{TextSet, number_value};
 use http_header::{
@@ -48,16 +47,6 @@ fn asked_headers(head: &RequestHead) -> Option<&FieldValue>
     ensures { option_copied result ≡ asked_headers (view head.now) }
 {
     head.headers.get(&ACCESS_CONTROL_REQUEST_HEADERS)
-}
-
-// A copy of the value, which keeps no long text alive.
-fn detached(value: Option<&FieldValue>) -> Result<Option<FieldValue>, AllocError>
-    ensures { IfOk result (λ copy. copy ≡ option_copied value.entry) }
-{
-    match value {
-        None => Ok(None),
-        Some(value) => Ok(Some(value.detached()?)),
-    }
 }
 
 // The request headers that the answer names: the finite set, or else what was asked for.

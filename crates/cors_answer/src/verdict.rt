@@ -8,9 +8,8 @@ ghost use Rattle.cors_answer.specs.Verdicts.{verdict_of};
 
 use crate::preflight::answer_preflight;
 use crate::refusal::CorsRefusal;
-use cors_policy::{OriginRule, Policy, vary_where};
+use cors_policy::{OriginRule, Policy, origin_in, vary_where};
 use cors_rules::CorsError;
-use http_header::ORIGIN;
 use http1_plain::{ErrorResponse, FieldValue, RequestHead, Response};
 use std::alloc::{AllocError, Global};
 
@@ -21,13 +20,6 @@ pub enum Verdict {
     Answered(Response),
     /// To the inner service, with the value of the grant, where there is one.
     HandedOn(Option<FieldValue>),
-}
-
-// The request's `Origin`.
-pub(crate) fn origin_in(head: &RequestHead) -> Option<&FieldValue>
-    ensures { option_copied result ≡ origin_of (view head.now) }
-{
-    head.headers.get(&ORIGIN)
 }
 
 // Whether the origin is granted; a request with no `Origin` asks for no grant.

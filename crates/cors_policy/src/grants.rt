@@ -14,15 +14,16 @@ use http_header::ORIGIN;
 use http1_plain::{FieldValue, RequestHead};
 use std::alloc::{AllocError, Global};
 
-// The request's `Origin`.
-fn origin_in(head: &RequestHead) -> Option<&FieldValue>
+/// The request's `Origin` (RFC 6454, section 7), if it stands there: the first where there are several.
+pub fn origin_in(head: &RequestHead) -> Option<&FieldValue>
     ensures { option_copied result ≡ origin_of (view head.now) }
 {
     head.headers.get(&ORIGIN)
 }
 
-// A copy of the value, which keeps no long text alive.
-fn detached(value: Option<&FieldValue>) -> Result<Option<FieldValue>, AllocError>
+/// A copy of a request's value, where there is one, or an error where memory ran out. One of at most 1,024 bytes keeps no part
+/// of the head alive.
+pub fn detached(value: Option<&FieldValue>) -> Result<Option<FieldValue>, AllocError>
     ensures { IfOk result (λ copy. copy ≡ option_copied value.entry) }
 {
     match value {

@@ -13,5 +13,5 @@ pub use allowed::{allow_text, allows_same, copy_to_ask, copy_to_ask_and_print, c
 pub use methods::nine_methods;
 pub use origin::{are_origin_bytes, is_uri, origin_value};
 pub use text_set::TextSet;
-pub use token::{is_name, is_token, trimmed};
+pub use token::{is_name, is_token};
 pub use values::{literal, lowered_value, name_value, number_value, push_literal, token_value};

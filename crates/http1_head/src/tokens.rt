@@ -1,56 +1,14 @@
 //! What a head asks of the connection (RFC 9110, sections 7.6.1, 7.8 and 10.1.1).
-ghost use Rattle.std.specs.Prelude.{◌≡◌, ◌&&◌, codes, reverse, bytes_eq};
+ghost use Rattle.std.specs.Prelude.{◌≡◌, ◌&&◌, codes, bytes_eq};
 ghost use Rattle.std.specs.List.{list_any};
 ghost use Rattle.http_header.specs.Token.{lowercase};
-ghost use Rattle.httparse.specs.Grammar.{is_ows, skip_ows, trim_ows};
+ghost use Rattle.httparse.specs.Grammar.{trim_ows};
 ghost use Rattle.http1_grammar.specs.Headers.{is_named};
 ghost use Rattle.http1_grammar.specs.Tokens.{closes, connection_options, expects, names_token, upgrades};
 ghost use Rattle.http1_plain.specs.Views.{view};
 
 use http_header::HeaderName;
-use http1_plain::{FieldValue, HeaderList, HttpVersion, RequestHead};
-
-fn is_ows(b: u8) -> bool
-    ensures { result ≡ is_ows b }
-{
-    b == b' ' || b == b'\t'
-}
-
-// The bytes behind the white space at the front.
-fn without_front(option: &[u8]) -> &[u8]
-    ensures { result.now ≡ skip_ows option.now }
-{
-    let mut left = option;
-    while let [first, rest @ ..] = left {
-        if !is_ows(*first) {
-            break;
-        }
-        left = rest;
-    }
-    left
-}
-
-// The bytes before the white space at the end.
-fn without_back(option: &[u8]) -> &[u8]
-    ensures { result.now ≡ reverse (skip_ows (reverse option.now)) }
-{
-    let mut left = option;
-    while let [rest @ .., last] = left {
-        if !is_ows(*last) {
-            break;
-        }
-        left = rest;
-    }
-    left
-}
-
-// The option without the white space around it.
-#[tactic(auto, unfolding(httparse::specs::Grammar::trim_ows))]
-fn trimmed(option: &[u8]) -> &[u8]
-    ensures { result.now ≡ trim_ows option.now }
-{
-    without_back(without_front(option))
-}
+use http1_plain::{FieldValue, HeaderList, HttpVersion, RequestHead, trimmed};
 
 // Whether the option is the token, which is in lower case.
 fn is_option(option: &[u8], token: &[u8]) -> bool

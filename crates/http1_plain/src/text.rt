@@ -1,4 +1,4 @@
-ghost use Rattle.std.specs.Prelude.{◌≡◌, ◌++◌, [], IfOk, OnOk, OnErr, IfSome};
+ghost use Rattle.std.specs.Prelude.{◌≡◌, ◌≤◌, ◌↔◌, ◌++◌, [], length, IfOk, OnOk, OnErr, IfSome, IsSome};
 
 use arrayvec::ArrayVec;
 use bytes::Bytes;
@@ -56,7 +56,8 @@ fn joined(alloc: Global, front: &[u8], back: &[u8]) -> Result<Octets, AllocError
 impl Text {
     /// The bytes, if they are so few that they lie in the value itself.
     pub(crate) fn of_few(alloc: Global, bytes: &[u8]) -> Option<Text>
-        ensures { IfSome result (λ text. text ≡ bytes.now) }
+        ensures same { IfSome result (λ text. text ≡ bytes.now) }
+        ensures few { IsSome result ↔ (length bytes.now ≤ 24) }
     {
         match ArrayVec::try_from(bytes) {
             Ok(bytes) => Some(Text {

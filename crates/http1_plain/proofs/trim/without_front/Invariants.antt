@@ -1,9 +1,9 @@
 use Rattle.std.proofs.Common.{◌≡◌, length}
 use Rattle.httparse.specs.Grammar.{skip_ows}
-use Rattle.cors_sets.proofs.token.without_front.Given as goal
+use Rattle.http1_plain.proofs.trim.without_front.Given as goal
 
 abbrev pub invariant-loop-left : goal.invariant-loop-left
-invariant-loop-left l = skip_ows l.left ≡ skip_ows l.item
+invariant-loop-left l = skip_ows l.left ≡ skip_ows l.part
 
 abbrev pub decreases-loop-left : goal.decreases-loop-left
 decreases-loop-left l = length l.left
