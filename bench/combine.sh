@@ -31,7 +31,7 @@ def allocations(depth, calls):
     subprocess.run([program, str(depth), str(calls)], stdin=subprocess.DEVNULL, stdout=subprocess.DEVNULL, check=True,
         env={**os.environ, "LD_PRELOAD": counts, "COUNTED": counted})
     with open(counted) as number:
-        return int(number.read())
+        return int(number.readline())
 
 nanoseconds, first, taken = {}, {}, {}
 for depth in (1, 5, 20):

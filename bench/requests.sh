@@ -22,7 +22,7 @@ def allocations(command):
     if not os.path.exists(library):
         return None
     subprocess.run(command, env=dict(os.environ, LD_PRELOAD=library, COUNTED=counted), stdout=subprocess.DEVNULL, check=True)
-    return int(open(counted).read())
+    return int(open(counted).readline())
 
 # What one request costs of what a run costs.
 def of_one(cost, kind, flight):

@@ -1,8 +1,10 @@
 /* Loaded before the C library (LD_PRELOAD), it counts the allocations of a program, and refuses one of them:
    REFUSE=N       the Nth allocation finds no memory, and then the file that REFUSED names is there;
-   COUNTED=FILE   the number of allocations stands in that file when the program has ended. */
+   COUNTED=FILE   the number of allocations stands in that file when the program has ended, and behind it the most bytes
+                  that were allocated at once. */
 #include <errno.h>
 #include <fcntl.h>
+#include <malloc.h>
 #include <stddef.h>
 #include <stdio.h>
 #include <stdlib.h>
@@ -12,9 +14,20 @@ extern void *__libc_malloc(size_t);
 extern void *__libc_calloc(size_t, size_t);
 extern void *__libc_realloc(void *, size_t);
 extern void *__libc_memalign(size_t, size_t);
+extern void __libc_free(void *);
 
 static unsigned long count;
 static unsigned long refuse;
+static size_t held;
+static size_t most;
+
+/* Notes what was allocated. */
+static void *noted(void *got) {
+    held += got ? malloc_usable_size(got) : 0;
+    if (held > most)
+        most = held;
+    return got;
+}
 
 /* Counts an allocation. Whether it is the one to refuse. */
 static int is_refused(void) {
@@ -30,11 +43,24 @@ static int is_refused(void) {
     return 1;
 }
 
-void *malloc(size_t size) { return is_refused() ? NULL : __libc_malloc(size); }
-void *calloc(size_t n, size_t size) { return is_refused() ? NULL : __libc_calloc(n, size); }
-void *realloc(void *old, size_t size) { return is_refused() ? NULL : __libc_realloc(old, size); }
-void *memalign(size_t align, size_t size) { return is_refused() ? NULL : __libc_memalign(align, size); }
+void *malloc(size_t size) { return is_refused() ? NULL : noted(__libc_malloc(size)); }
+void *calloc(size_t n, size_t size) { return is_refused() ? NULL : noted(__libc_calloc(n, size)); }
+void *memalign(size_t align, size_t size) { return is_refused() ? NULL : noted(__libc_memalign(align, size)); }
 void *aligned_alloc(size_t align, size_t size) { return memalign(align, size); }
+
+void free(void *old) {
+    held -= old ? malloc_usable_size(old) : 0;
+    __libc_free(old);
+}
+
+/* Both are held while the bytes are moved. */
+void *realloc(void *old, size_t size) {
+    size_t before = old ? malloc_usable_size(old) : 0;
+    void *got = is_refused() ? NULL : noted(__libc_realloc(old, size));
+    if (got)
+        held -= before;
+    return got;
+}
 
 int posix_memalign(void **out, size_t align, size_t size) {
     void *got = memalign(align, size);
@@ -49,6 +75,6 @@ __attribute__((destructor)) static void tell(void) {
     int file = counted ? open(counted, O_CREAT | O_TRUNC | O_WRONLY, 0600) : -1;
     if (file < 0)
         return;
-    dprintf(file, "%lu\n", count);
+    dprintf(file, "%lu\n%zu\n", count, most);
     close(file);
 }

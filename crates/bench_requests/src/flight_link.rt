@@ -5,10 +5,11 @@ ghost use Rattle.service_core.specs.declared.peer.Peer.TheVariants.{Local};
 use futures::task::{Context, Poll};
 use service_core::{Link, LinkFault, Octets, Peer};
 
-/// Its peer sends the same requests so many times, each time once all were read that it sent before. What is written is
-/// counted, and not kept.
+/// Its peer sends a front once, and then the same bytes so many times, each time once all were read that it sent before. What
+/// is written is counted, and not kept.
 #[derive(Drop)]
 pub struct FlightLink {
+    front: &'static [u8],
     flight: Octets,
     // How many bytes of the flight were read, how many flights are still to come, and how many bytes were read in all.
     place: usize,
@@ -19,9 +20,10 @@ pub struct FlightLink {
 }
 
 impl FlightLink {
-    /// Gives these bytes so many times.
-    pub fn new(flight: Octets, times: u64) -> FlightLink {
+    /// Gives the front, and these bytes so many times.
+    pub fn new(front: &'static [u8], flight: Octets, times: u64) -> FlightLink {
         FlightLink {
+            front,
             place: flight.len(),
             flight,
             rest: times,
@@ -60,6 +62,13 @@ impl Link for FlightLink {
         _cx: &mut Context<'_>,
         buf: &mut [u8],
     ) -> Poll<Result<usize, LinkFault>> {
+        if !self.front.is_empty() {
+            let count = self.front.len().min(buf.len());
+            buf[..count].copy_from_slice(&self.front[..count]);
+            self.front = &self.front[count..];
+            self.taken = self.taken.saturating_add(count as u64);
+            return Poll::Ready(Ok(count));
+        }
         if self.place == self.flight.len() && self.rest > 0 {
             self.rest -= 1;
             self.place = 0;

@@ -19,9 +19,9 @@ use std::random::RandomSource;
 use std::rt::Env;
 use std::sync::Wait;
 
-const USAGE: &str = "usage: bench_requests small|browser FLIGHT TIMES";
+const USAGE: &str = "usage: bench_requests small|browser|chunk FLIGHT TIMES";
 
-// Serves as many requests as the words say, and prints how many bytes were written.
+// Serves as much as the words say, and prints how many bytes were written.
 fn run<R>(rt: &R) -> Result<u8, Failure>
 where
     R: Wait + RandomSource + AllocGlobal + Env + Print,

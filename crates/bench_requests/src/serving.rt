@@ -48,13 +48,13 @@ fn handler(alloc: Global) -> Result<H1ServiceHandler<Kept>, Failure> {
     }
 }
 
-// The link of so many requests of the kind at once, so many times.
+// The link of so many of the kind at once, so many times.
 fn link(alloc: Global, size: Size) -> Result<FlightLink, AllocError> {
     let mut flight = Octets::new(alloc);
     for _ in 0..size.flight {
         flight.push_all(size.kind.text())?;
     }
-    Ok(FlightLink::new(flight, size.times))
+    Ok(FlightLink::new(size.kind.front(), flight, size.times))
 }
 
 // How many bytes were written on a connection that was served to its end.

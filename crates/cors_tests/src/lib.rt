@@ -20,6 +20,8 @@ mod inner;
 #[cfg(test)]
 mod law_tests;
 #[cfg(test)]
+mod origins;
+#[cfg(test)]
 mod policies;
 #[cfg(test)]
 mod requests;

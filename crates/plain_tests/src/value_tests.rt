@@ -1,7 +1,7 @@
 //! Headers' values.
 use crate::headers::value_of;
 use crate::shown::{every, hold};
-use http1_plain::{FieldFault, FieldValue};
+use http1_plain::{FieldFault, FieldValue, trimmed};
 use service_core::Octets;
 use std::alloc::{AllocError, Global};
 use std::test::Fail;
@@ -175,4 +175,15 @@ fn are_no_texts(alloc: Global) -> Result<bool, AllocError> {
 fn values_as_text(rt: HostRuntime) -> Result<(), Fail> {
     let alloc = rt.alloc();
     hold(&rt, &[are_texts(alloc), are_no_texts(alloc)])
+}
+
+fn is_trimmed(part: &[u8], wanted: &[u8]) -> bool {
+    trimmed(part) == wanted
+}
+
+#[test]
+fn white_space_around_a_part_goes(rt: HostRuntime) -> Result<(), Fail> {
+    let around = is_trimmed(b" \ta \tb\t ", b"a \tb");
+    let alone = is_trimmed(b" \t", b"") && is_trimmed(b"", b"") && is_trimmed(b"a", b"a");
+    hold(&rt, &[Ok(around), Ok(alone)])
 }
