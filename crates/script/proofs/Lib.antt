@@ -1,7 +1,9 @@
 pub mod Building
+pub mod Cutting
+pub mod Going
 pub mod Lines
 pub mod Numbers
-pub mod OneLine
 pub mod OneWord
 pub mod Texts
 pub mod Plainness
+pub mod Ranges

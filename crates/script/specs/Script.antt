@@ -1,20 +1,29 @@
 -- The grammar of a script, and the plan that its lines make.
-use Rattle.std.specs.Prelude.{ℕ, ◌+◌, ◌*◌, ◌-◌, ◌^◌, ◌==◌, ◌&&◌, ◌||◌, nat_le, nat_lt, nat_eq, not, Bool, true, false, if◌then◌else◌, List, [], ◌∷◌, ◌++◌, length, drop, Option, Some, None, is_none, Result, Ok, Err, codes}
+use Rattle.std.specs.Prelude.{ℕ, ◌+◌, ◌*◌, ◌-◌, ◌^◌, ◌==◌, ◌&&◌, ◌||◌, nat_le, nat_lt, nat_eq, not, Bool, true, false, if◌then◌else◌, List, [], ◌∷◌, length, drop, Option, Some, None, is_none, Result, Ok, Err, codes}
 use Rattle.std.specs.List.{slice_split, starts_with, list_all, position_or_len, before_first, after_first}
 use Rattle.std.specs.Str.{bytes_eq}
 use Rattle.std.specs.Option.{option_map, option_and_then, option_map_or, option_or}
 use Rattle.service_core.specs.declared.peer.Peer.{Peer}
 use Rattle.service_core.specs.declared.peer.Peer.TheVariants.{V4, Local}
-use Rattle.script.specs.Plain.{is_plain}
-use Rattle.script.specs.declared.line.Line.{Line}
+use Rattle.http1_grammar.specs.Limits.{Limits}
 use Rattle.cors_rules.specs.Policy.{Builder, fresh}
+use Rattle.server_run.specs.declared.read_step.ReadStep.TheVariants.{NotYet}
+use Rattle.server_run.specs.declared.write_step.WriteStep.{WriteStep}
+use Rattle.server_run.specs.declared.write_step.WriteStep.TheVariants.{Take as Takes, NotYet as WritesNotYet}
+use Rattle.script.specs.Numbers.{number_behind, number_to}
+use Rattle.script.specs.Plain.{is_plain}
+use Rattle.script.specs.Planned.{Planned, and_reads, and_writes, gives, no_steps}
+use Rattle.script.specs.PolicyText.{and_line, is_permissive, policy_line, some_text}
 use Rattle.script.specs.declared.handler.Handler.{Handler}
 use Rattle.script.specs.declared.handler.Handler.TheVariants as handlers
-use Rattle.script.specs.Numbers.{number_to}
-use Rattle.script.specs.PolicyText.{and_line, is_permissive, policy_line, some_text}
+use Rattle.script.specs.declared.line.Line.{Line}
+use Rattle.script.specs.declared.line.Line.TheVariants.{Skip, Setting, Policy, Place}
+use Rattle.script.specs.declared.place.place_line.PlaceLine.{PlaceLine}
+use Rattle.script.specs.declared.place.place_line.PlaceLine.TheVariants.{Listener, Conn, Give, Wait, Take, WriteWait}
 use Rattle.script.specs.declared.policy.policy_line.PolicyLine.{PolicyLine}
 use Rattle.script.specs.declared.policy.script_rule.ScriptRule.{ScriptRule}
-use Rattle.script.specs.declared.line.Line.TheVariants.{Skip, Listener, Conn, Give, Handle, Policy}
+use Rattle.script.specs.declared.setting.setting_line.SettingLine.{SettingLine}
+use Rattle.script.specs.declared.setting.setting_line.SettingLine.TheVariants.{Head, Body, Cut, Handle}
 
 -- ---- the text of a `give` line
 
@@ -81,40 +90,108 @@ peer_of text = if bytes_eq text (codes "local") then Some Local else v4_of text
 
 -- ---- lines
 
+-- how many bytes of a head are read, and of a body, and how many bytes a piece of what is given has at the most
+abbrev pub head_line : List ℕ → Option SettingLine
+head_line line = option_map Head (number_behind (codes "head ") 1 65535 line)
+
+abbrev pub body_line : List ℕ → Option SettingLine
+body_line line = option_map Body (number_behind (codes "body ") 1 16777216 line)
+
+abbrev pub cut_line : List ℕ → Option SettingLine
+cut_line line = option_map Cut (number_behind (codes "cut ") 1 65536 line)
+
+-- a handler that answers with a status
+abbrev pub status_line : List ℕ → Option Handler
+status_line line = option_map handlers.Status (number_behind (codes "handler status ") 200 999 line)
+
 -- the handler that a line sets
 abbrev pub handler_line : List ℕ → Option Handler
 handler_line line =
     if bytes_eq line (codes "handler hello") then Some handlers.Hello
+    else if bytes_eq line (codes "handler echo") then Some handlers.Echo
     else if bytes_eq line (codes "handler peer") then Some handlers.Peer
     else if bytes_eq line (codes "handler fail") then Some handlers.Fail
+    else status_line line
+
+abbrev pub setting_line : List ℕ → Option SettingLine
+setting_line line =
+    option_or (head_line line) (option_or (body_line line) (option_or (cut_line line) (option_map Handle (handler_line line))))
+
+-- a listener; a read that is pending once, and such a write
+abbrev pub bare_line : List ℕ → Option PlaceLine
+bare_line line =
+    if bytes_eq line (codes "listener") then Some Listener
+    else if bytes_eq line (codes "wait") then Some Wait
+    else if bytes_eq line (codes "write-wait") then Some WriteWait
     else None
+
+-- a connection
+abbrev pub conn_line : List ℕ → Option PlaceLine
+conn_line line = if starts_with nat_eq line (codes "conn ") then option_map Conn (peer_of (drop 5 line)) else None
+
+-- how many bytes a write takes at the most
+abbrev pub take_line : List ℕ → Option PlaceLine
+take_line line = option_map Take (number_behind (codes "take ") 1 65536 line)
+
+-- the bytes that a text stands for, which isn't empty
+abbrev pub some_bytes : List ℕ → Option PlaceLine
+some_bytes text = option_map Give (option_and_then text_bytes (some_text text))
+
+abbrev pub give_line : List ℕ → Option PlaceLine
+give_line line = if starts_with nat_eq line (codes "give ") then some_bytes (drop 5 line) else None
+
+abbrev pub place_line : List ℕ → Option PlaceLine
+place_line line = option_or (bare_line line) (option_or (conn_line line) (option_or (take_line line) (give_line line)))
+
+-- what a line says that is neither empty nor a comment
+abbrev pub told_by : List ℕ → Option Line
+told_by line =
+    option_or (option_map Setting (setting_line line)) (option_or (option_map Place (place_line line)) (option_map Policy (policy_line line)))
 
 -- what a line says, or none where it isn't of the grammar
 abbrev pub line_of : List ℕ → Option Line
 line_of line =
     if not (list_all is_plain line) then None
     else if (length line == 0) || starts_with nat_eq line (codes "#") then Some Skip
-    else if bytes_eq line (codes "listener") then Some Listener
-    else if starts_with nat_eq line (codes "conn ") then option_map Conn (peer_of (drop 5 line))
-    else if starts_with nat_eq line (codes "give ") then option_map Give (option_and_then text_bytes (some_text (drop 5 line)))
-    else option_or (option_map Handle (handler_line line)) (option_map Policy (policy_line line))
+    else told_by line
 
 -- ---- the plan
 
--- the builder of the policy and whether a line spoke of it, the handler, whether there is a listener, and its
--- connection: a peer and the bytes that it gives
+-- the builder of the policy and whether a line spoke of it, the handler, the limits of its connection in bytes and of a
+-- piece of what that gives, whether there is a listener, and its connection
 pub record Plan : Type 0 where
   pub cors : Builder ScriptRule
   pub has_policy : Bool
   pub handler : Handler
+  pub limits : Limits
+  pub cut : ℕ
   pub listening : Bool
-  pub connection : Option (Peer × List ℕ)
+  pub connection : Option Planned
+
+abbrev pub default_limits : Limits
+default_limits = record { head = 32768; body = 1048576 }
 
 abbrev pub nothing_yet : Plan
-nothing_yet = record { cors = fresh; has_policy = false; handler = handlers.Hello; listening = false; connection = None }
+nothing_yet = record {
+  cors = fresh;
+  has_policy = false;
+  handler = handlers.Hello;
+  limits = default_limits;
+  cut = 65536;
+  listening = false;
+  connection = None;
+}
 
-abbrev pub with_listener : Plan → Option Plan
-with_listener plan = if plan.listening then None else Some (record plan { listening = true })
+-- what a line sets; a later line takes the place of an earlier one
+abbrev pub and_setting : Plan → SettingLine → Plan
+and_setting plan (Head size) = record plan { limits = record { head = size; body = plan.limits.body } }
+and_setting plan (Body size) = record plan { limits = record { head = plan.limits.head; body = size } }
+and_setting plan (Cut size) = record plan { cut = size }
+and_setting plan (Handle handler) = record plan { handler = handler }
+
+-- what is set before the listener
+abbrev pub with_setting : Plan → SettingLine → Option Plan
+with_setting plan line = if plan.listening then None else Some (and_setting plan line)
 
 -- one more policy line, which stands before the listener; one that allows everything stands before every other
 abbrev pub with_policy : Plan → PolicyLine → Option Plan
@@ -122,24 +199,38 @@ with_policy plan line =
     if plan.listening || (is_permissive line && plan.has_policy) then None
     else Some (record plan { cors = and_line plan.cors line; has_policy = true })
 
--- the handler, which is set before the listener; a later line takes the place of an earlier one
-abbrev pub with_handler : Plan → Handler → Option Plan
-with_handler plan handler = if plan.listening then None else Some (record plan { handler = handler })
+abbrev pub with_listener : Plan → Option Plan
+with_listener plan = if plan.listening then None else Some (record plan { listening = true })
 
 abbrev pub with_connection : Plan → Peer → Option Plan
-with_connection plan peer = if plan.listening && is_none plan.connection then Some (record plan { connection = Some (peer, []) }) else None
+with_connection plan peer = if plan.listening && is_none plan.connection then Some (record plan { connection = Some (no_steps peer) }) else None
 
+-- bytes that the connection gives, piece by piece
 abbrev pub with_bytes : Plan → List ℕ → Option Plan
-with_bytes plan bytes = option_map (λ (peer, held). record plan { connection = Some (peer, held ++ bytes) }) plan.connection
+with_bytes plan bytes = option_map (λ c. record plan { connection = Some (and_reads c (gives plan.cut bytes)) }) plan.connection
+
+-- a read of it that is pending once
+abbrev pub with_wait : Plan → Option Plan
+with_wait plan = option_map (λ c. record plan { connection = Some (and_reads c (NotYet ∷ [])) }) plan.connection
+
+-- a step of its writes
+abbrev pub with_write : Plan → WriteStep → Option Plan
+with_write plan step = option_map (λ c. record plan { connection = Some (and_writes c (step ∷ [])) }) plan.connection
+
+abbrev pub with_place : Plan → PlaceLine → Option Plan
+with_place plan Listener = with_listener plan
+with_place plan (Conn peer) = with_connection plan peer
+with_place plan (Give bytes) = with_bytes plan bytes
+with_place plan Wait = with_wait plan
+with_place plan (Take most) = with_write plan (Takes most)
+with_place plan WriteWait = with_write plan WritesNotYet
 
 -- what a plan becomes by a line, or none where the line can't stand there
 abbrev pub with_line : Plan → Line → Option Plan
 with_line plan Skip = Some plan
-with_line plan Listener = with_listener plan
-with_line plan (Conn peer) = with_connection plan peer
-with_line plan (Give bytes) = with_bytes plan bytes
-with_line plan (Handle handler) = with_handler plan handler
+with_line plan (Setting line) = with_setting plan line
 with_line plan (Policy line) = with_policy plan line
+with_line plan (Place line) = with_place plan line
 
 abbrev pub after_line : Plan → List ℕ → Option Plan
 after_line plan line = option_and_then (λ said. with_line plan said) (line_of line)

@@ -2,19 +2,26 @@
 #![tactic(auto)]
 
 mod connection;
+mod final_status;
 mod handler;
 mod line;
+mod pieces;
+mod place;
 mod policy;
 mod reading;
 mod script;
+mod setting;
 mod text;
 mod words;
 
 pub use connection::Connection;
+pub use final_status::FinalStatus;
 pub use handler::Handler;
 pub use line::{Line, read_line};
+pub use place::PlaceLine;
 pub use policy::{PolicyLine, ScriptRule, build_policy, read_policy_line};
 pub use reading::{MAX_SCRIPT, Reading, read_script};
 pub use script::Script;
+pub use setting::{SettingLine, Settings};
 pub use text::PlainText;
 pub use words::is_replay;

@@ -1,13 +1,18 @@
 //! A script, and what it asks for.
 ghost use Rattle.std.specs.Prelude.{◌≡◌, ◌&&◌, ◌||◌, if◌then◌else◌, false, IfOk, Option, OnErr, Some, None};
-ghost use Rattle.script.specs.Script.{with_listener, with_handler, with_policy, with_connection, with_bytes, with_line, nothing_yet};
+ghost use Rattle.server_run.specs.Steps.{TakesSome, is_write_fail};
 ghost use Rattle.script.specs.Plan.{plan};
 ghost use Rattle.script.specs.PolicyText.{is_permissive};
+ghost use Rattle.script.specs.Ranges.{IsInRange, IsPlaceInRange, IsSettingInRange};
+ghost use Rattle.script.specs.Script.{and_setting, nothing_yet, with_bytes, with_connection, with_line, with_listener, with_place, with_policy, with_setting, with_wait, with_write};
 
 use crate::connection::Connection;
-use crate::handler::Handler;
 use crate::line::Line;
+use crate::place::PlaceLine;
 use crate::policy::PolicyLine;
+use crate::setting::{SettingLine, Settings};
+use http1_plain::Limits;
+use server_run::WriteStep;
 use service_core::{Octets, Peer};
 use std::alloc::{AllocError, Global};
 
@@ -16,8 +21,8 @@ use std::alloc::{AllocError, Global};
 pub struct Script {
     /// What it says of the policy, line by line.
     pub policy: Vec<PolicyLine>,
-    /// What answers the requests.
-    pub handler: Handler,
+    /// How its connection is served.
+    pub settings: Settings,
     /// There is a listener.
     pub listening: bool,
     /// The connection that comes to it.
@@ -31,7 +36,7 @@ impl Script {
     {
         Script {
             policy: Vec::new(alloc),
-            handler: Handler::Hello,
+            settings: Settings::new(),
             listening: false,
             connection: None,
         }
@@ -40,40 +45,49 @@ impl Script {
     /// Takes what one more line says. Returns whether it can stand here; where it cannot, and where memory runs out, the
     /// script asks for what it asked before.
     pub fn push(&mut self, alloc: Global, said: Line) -> Result<bool, AllocError>
+        requires { IsInRange said }
         ensures taken { IfOk result (λ taken. (if taken then Some (plan self.new) else None) ≡ with_line (plan self.old) said) }
         ensures refused { IfOk result (λ taken. taken ≡ false → plan self.new ≡ plan self.old) }
         ensures err { OnErr result (plan self.new ≡ plan self.old) }
     {
         match said {
             Line::Skip => Ok(true),
-            Line::Listener => Ok(self.push_listener()),
-            Line::Conn(peer) => Ok(self.push_connection(alloc, peer)),
-            Line::Give(bytes) => self.push_bytes(&bytes),
-            Line::Handle(handler) => Ok(self.set_handler(handler)),
+            Line::Setting(line) => Ok(self.push_setting(line)),
             Line::Policy(line) => self.push_policy(line),
+            Line::Place(line) => self.push_place(alloc, line),
         }
     }
 
-    fn push_listener(&mut self) -> bool
-        ensures taken { (if result then Some (plan self.new) else None) ≡ with_listener (plan self.old) }
+    fn push_setting(&mut self, line: SettingLine) -> bool
+        requires { IsSettingInRange line }
+        ensures taken { (if result then Some (plan self.new) else None) ≡ with_setting (plan self.old) line }
         ensures refused { result ≡ false → plan self.new ≡ plan self.old }
     {
         if self.listening {
             return false;
         }
-        self.listening = true;
+        self.set(line);
         true
     }
 
-    fn set_handler(&mut self, handler: Handler) -> bool
-        ensures taken { (if result then Some (plan self.new) else None) ≡ with_handler (plan self.old) handler }
-        ensures refused { result ≡ false → plan self.new ≡ plan self.old }
+    fn set(&mut self, line: SettingLine)
+        requires { IsSettingInRange line }
+        ensures { plan self.new ≡ and_setting (plan self.old) line }
     {
-        if self.listening {
-            return false;
+        match line {
+            SettingLine::Head(size) => {
+                self.settings.limits = Limits::new(size, self.settings.limits.body());
+            }
+            SettingLine::Body(size) => {
+                self.settings.limits = Limits::new(self.settings.limits.head(), size);
+            }
+            SettingLine::Cut(size) => {
+                self.settings.cut = size;
+            }
+            SettingLine::Handle(handler) => {
+                self.settings.handler = handler;
+            }
         }
-        self.handler = handler;
-        true
     }
 
     // Whether the policy line can't stand here.
@@ -96,6 +110,33 @@ impl Script {
         Ok(true)
     }
 
+    fn push_place(&mut self, alloc: Global, line: PlaceLine) -> Result<bool, AllocError>
+        requires { IsPlaceInRange line }
+        ensures taken { IfOk result (λ taken. (if taken then Some (plan self.new) else None) ≡ with_place (plan self.old) line) }
+        ensures refused { IfOk result (λ taken. taken ≡ false → plan self.new ≡ plan self.old) }
+        ensures err { OnErr result (plan self.new ≡ plan self.old) }
+    {
+        match line {
+            PlaceLine::Listener => Ok(self.push_listener()),
+            PlaceLine::Conn(peer) => Ok(self.push_connection(alloc, peer)),
+            PlaceLine::Give(bytes) => self.push_bytes(alloc, &bytes),
+            PlaceLine::Wait => self.push_wait(),
+            PlaceLine::Take(most) => self.push_write(WriteStep::Take(most)),
+            PlaceLine::WriteWait => self.push_write(WriteStep::NotYet),
+        }
+    }
+
+    fn push_listener(&mut self) -> bool
+        ensures taken { (if result then Some (plan self.new) else None) ≡ with_listener (plan self.old) }
+        ensures refused { result ≡ false → plan self.new ≡ plan self.old }
+    {
+        if self.listening {
+            return false;
+        }
+        self.listening = true;
+        true
+    }
+
     fn push_connection(&mut self, alloc: Global, peer: Peer) -> bool
         ensures taken { (if result then Some (plan self.new) else None) ≡ with_connection (plan self.old) peer }
         ensures refused { result ≡ false → plan self.new ≡ plan self.old }
@@ -103,14 +144,11 @@ impl Script {
         if !self.listening || self.connection.is_some() {
             return false;
         }
-        self.connection = Some(Connection {
-            peer,
-            held: Octets::new(alloc),
-        });
+        self.connection = Some(Connection::new(alloc, peer));
         true
     }
 
-    fn push_bytes(&mut self, bytes: &Octets) -> Result<bool, AllocError>
+    fn push_bytes(&mut self, alloc: Global, bytes: &Octets) -> Result<bool, AllocError>
         ensures taken { IfOk result (λ taken. (if taken then Some (plan self.new) else None) ≡ with_bytes (plan self.old) bytes.now) }
         ensures refused { IfOk result (λ taken. taken ≡ false → plan self.new ≡ plan self.old) }
         ensures err { OnErr result (plan self.new ≡ plan self.old) }
@@ -118,7 +156,37 @@ impl Script {
         match &mut self.connection {
             None => Ok(false),
             Some(connection) => {
-                connection.held.push_all(bytes.as_bytes())?;
+                connection.push_bytes(alloc, self.settings.cut, bytes.as_bytes())?;
+                Ok(true)
+            }
+        }
+    }
+
+    fn push_wait(&mut self) -> Result<bool, AllocError>
+        ensures taken { IfOk result (λ taken. (if taken then Some (plan self.new) else None) ≡ with_wait (plan self.old)) }
+        ensures refused { IfOk result (λ taken. taken ≡ false → plan self.new ≡ plan self.old) }
+        ensures err { OnErr result (plan self.new ≡ plan self.old) }
+    {
+        match &mut self.connection {
+            None => Ok(false),
+            Some(connection) => {
+                connection.push_wait()?;
+                Ok(true)
+            }
+        }
+    }
+
+    fn push_write(&mut self, step: WriteStep) -> Result<bool, AllocError>
+        requires some { TakesSome step }
+        requires goes_on { is_write_fail step ≡ false }
+        ensures taken { IfOk result (λ taken. (if taken then Some (plan self.new) else None) ≡ with_write (plan self.old) step) }
+        ensures refused { IfOk result (λ taken. taken ≡ false → plan self.new ≡ plan self.old) }
+        ensures err { OnErr result (plan self.new ≡ plan self.old) }
+    {
+        match &mut self.connection {
+            None => Ok(false),
+            Some(connection) => {
+                connection.push_write(step)?;
                 Ok(true)
             }
         }

@@ -52,6 +52,10 @@ pub record IsPlace (steps : List ReadStep) (step offset : ℕ) : Type 0 where
   pub within : step ≤ length steps
   pub inside : offset ≤ length (bytes_at steps step)
 
+-- before the first step of the reads, and of the writes
+abbrev pub IsAtStart : ℕ → ℕ → ℕ → Type 0
+IsAtStart step offset write_step = (step ≡ 0) × (offset ≡ 0) × (write_step ≡ 0)
+
 -- a Give all of whose bytes come before the offset
 abbrev pub is_used_up : ReadStep → ℕ → Bool
 is_used_up (Give bytes) offset = length bytes == offset

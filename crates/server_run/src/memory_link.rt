@@ -6,7 +6,7 @@ ghost use Rattle.std.proofs.Math.Nat.{le_trans};
 ghost use Rattle.std.proofs.lemmas.List.Sums.{sum_by-take-le};
 ghost use Rattle.futures.specs.Task.{IsArmed, Keeps};
 ghost use Rattle.service_core.specs.Link.{FaultCount, ReadAnswer, WaitCount, WriteAnswer};
-ghost use Rattle.server_run.specs.Steps.{given_by, count_before, is_read_fail, is_write_fail, bytes_before, GoesByReads, GoesByWrites, IsPlace, IsUnused, PassesOver, TakesSome};
+ghost use Rattle.server_run.specs.Steps.{given_by, count_before, is_read_fail, is_write_fail, bytes_before, GoesByReads, GoesByWrites, IsAtStart, IsPlace, IsUnused, PassesOver, TakesSome};
 
 use crate::{ReadStep, WriteStep};
 use futures::task::{Context, Poll};
@@ -59,6 +59,9 @@ impl MemoryLink {
         ensures write_faults { ⟦<MemoryLink as Link>⟧.write_faults result ≡ 0 }
         ensures read_waits { ⟦<MemoryLink as Link>⟧.read_waits result ≡ 0 }
         ensures write_waits { ⟦<MemoryLink as Link>⟧.write_waits result ≡ 0 }
+        ensures reads { result.reads.items ≡ reads.items }
+        ensures writes { result.writes.items ≡ writes.items }
+        ensures start { IsAtStart result.step result.offset result.write_step }
     {
         MemoryLink {
             name,

@@ -1,7 +1,7 @@
 //! Decimal numbers of a script.
 ghost use Rattle.std.specs.Prelude.{◌≡◌, ◌<◌, ◌≤◌, ◌^◌, IfSome};
 ghost use Rattle.std.specs.List.{list_all};
-ghost use Rattle.script.specs.Numbers.{is_digit, is_decimal, number_to};
+ghost use Rattle.script.specs.Numbers.{is_digit, is_decimal, number_behind, number_in, number_to};
 
 /// The decimal number that a text writes, if it is no greater than `most`.
 pub(crate) fn number_to(most: u128, text: &[u8]) -> Option<u128>
@@ -20,6 +20,31 @@ pub(crate) fn number_to(most: u128, text: &[u8]) -> Option<u128>
         }
     }
     Some(value)
+}
+
+/// The decimal number that a text writes, if it is from `least` to `most`.
+fn number_in(least: u128, most: u128, text: &[u8]) -> Option<usize>
+    requires { most < 2 ^ 64 }
+    ensures value { result ≡ number_in least most text.now }
+    ensures small { IfSome result (λ n. n ≤ most) }
+{
+    let n = number_to(most, text)?;
+    if n < least {
+        return None;
+    }
+    Some(n as usize)
+}
+
+/// The number from `least` to `most` that stands in a line behind these bytes, if the line begins with them.
+pub(crate) fn number_behind(front: &[u8], least: u128, most: u128, line: &[u8]) -> Option<usize>
+    requires { most < 2 ^ 64 }
+    ensures value { result ≡ number_behind front.now least most line.now }
+    ensures small { IfSome result (λ n. n ≤ most) }
+{
+    if !line.starts_with(front) {
+        return None;
+    }
+    number_in(least, most, &line[front.len()..])
 }
 
 /// Whether a text is decimal digits with no zero before others.

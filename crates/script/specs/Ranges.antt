@@ -1,0 +1,30 @@
+-- The ranges of the numbers in a script's lines.
+use Rattle.std.specs.Prelude.{⊤}
+use Rattle.script.specs.Numbers.{IsWithin}
+use Rattle.script.specs.declared.line.Line.{Line}
+use Rattle.script.specs.declared.line.Line.TheVariants.{Skip, Setting, Policy, Place}
+use Rattle.script.specs.declared.place.place_line.PlaceLine.{PlaceLine}
+use Rattle.script.specs.declared.place.place_line.PlaceLine.TheVariants.{Listener, Conn, Give, Wait, Take, WriteWait}
+use Rattle.script.specs.declared.setting.setting_line.SettingLine.{SettingLine}
+use Rattle.script.specs.declared.setting.setting_line.SettingLine.TheVariants.{Head, Body, Cut, Handle}
+
+abbrev pub IsSettingInRange : SettingLine → Type 0
+IsSettingInRange (Head size) = IsWithin 1 65535 size
+IsSettingInRange (Body size) = IsWithin 1 16777216 size
+IsSettingInRange (Cut size) = IsWithin 1 65536 size
+IsSettingInRange (Handle handler) = ⊤
+
+abbrev pub IsPlaceInRange : PlaceLine → Type 0
+IsPlaceInRange Listener = ⊤
+IsPlaceInRange (Conn peer) = ⊤
+IsPlaceInRange (Give bytes) = ⊤
+IsPlaceInRange Wait = ⊤
+IsPlaceInRange (Take most) = IsWithin 1 65536 most
+IsPlaceInRange WriteWait = ⊤
+
+-- each number that the line says is in its range
+abbrev pub IsInRange : Line → Type 0
+IsInRange Skip = ⊤
+IsInRange (Setting line) = IsSettingInRange line
+IsInRange (Policy line) = ⊤
+IsInRange (Place line) = IsPlaceInRange line

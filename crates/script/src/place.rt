@@ -1,0 +1,7 @@
+//! The lines of a script's listener and its connection.
+
+mod place_line;
+mod place_text;
+
+pub use place_line::PlaceLine;
+pub(crate) use place_text::read_place_line;

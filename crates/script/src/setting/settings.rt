@@ -1,0 +1,34 @@
+//! How a script's connections are served.
+ghost use Rattle.std.specs.Prelude.{◌≡◌, ◌<◌};
+ghost use Rattle.http1_plain.specs.DefaultLimits.{IsDefault};
+ghost use Rattle.script.specs.declared.handler.Handler.TheVariants.{Hello};
+
+use crate::handler::Handler;
+use http1_plain::Limits;
+
+/// How the connections of a script are served.
+#[derive(Clone, Copy)]
+pub struct Settings {
+    /// How many bytes of a head and of a body are read.
+    pub limits: Limits,
+    /// What a connection gives comes in pieces of at most so many bytes, from 1 to 65,536.
+    pub cut: usize,
+    /// What answers the requests.
+    pub handler: Handler,
+    ghost some: { 0 < cut },
+}
+
+impl Settings {
+    /// What holds where no line sets it: the limits by default, pieces of 65,536 bytes, and `Hello world!`.
+    pub fn new() -> Settings
+        ensures limits { IsDefault result.limits }
+        ensures cut { result.cut ≡ 65536 }
+        ensures handler { result.handler ≡ Hello }
+    {
+        Settings {
+            limits: Limits::default(),
+            cut: 65_536,
+            handler: Handler::Hello,
+        }
+    }
+}
