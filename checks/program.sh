@@ -26,6 +26,8 @@ whole=$(cat "$top/crates/dongurapi/stdout")
 check "a browser's GET" 0 "$whole" "$top/examples/one-get.script" replay
 check "a GET in pieces" 0 "$whole" "$top/examples/browser.script" replay
 check "two GETs" 0 "$(cat "$top/examples/two-gets.report")" "$top/examples/two-gets.script" replay
+check "a POST in chunks" 0 "$(cat "$top/examples/post-in-chunks.report")" "$top/examples/post-in-chunks.script" replay
+check "a pipeline, byte by byte" 0 "$(cat "$top/examples/pipeline.report")" "$top/examples/pipeline.script" replay
 check "an allowed origin" 0 "$(cat "$top/examples/allowed-origin.report")" "$top/examples/allowed-origin.script" replay
 check "a preflight" 0 "$(cat "$top/examples/preflight.report")" "$top/examples/preflight.script" replay
 check "a refused policy" 4 'startup refused: `allowed_origin` argument must not be wildcard (`*`)' "$top/examples/refused-policy.script" replay

@@ -1,9 +1,9 @@
 #!/usr/bin/env bash
-# Every refused allocation ends as want of memory. Replays each example and each script of `checks/cases`, and runs each
-# test, with its first allocation refused, then with its second one, and so on, until a run makes so few that none is
-# refused, at most 500 times. A run of the program must end as the whole one, with status 7, or with a report that shows
-# `memory`; a run of a test must pass, or end for want of memory. It prints how many were refused, and fails where a run
-# ends otherwise.
+# Every refused allocation ends as want of memory. Replays each example and each script of `checks/cases`, but those whose
+# bytes come one by one and that come whole in another, and runs each test, with its first allocation refused, then with its
+# second one, and so on, until a run makes so few that none is refused, at most 500 times. A run of the program must end as
+# the whole one, with status 7, or with a report that shows `memory`; a run of a test must pass, or end for want of memory.
+# It prints how many were refused, and fails where a run ends otherwise.
 #
 # It tries the program and the tests that `rt ci` has built. A small library that is loaded before the C library refuses
 # the allocations, so a C compiler is wanted: with none on the machine nothing is tried, and it says so.
@@ -62,6 +62,7 @@ def test_is_allowed(status, text):
 runs = []
 program = f"{top}/crates/dongurapi/out/dongurapi"
 scripts = sorted(glob.glob(f"{top}/examples/*.script") + glob.glob(f"{top}/checks/cases/*.script"))
+scripts = [script for script in scripts if not script.endswith("byte-by-byte.script")]
 for script in scripts if os.path.exists(program) else []:
     with open(script, "rb") as stdin:
         whole = subprocess.run([program, "replay"], stdin=stdin, capture_output=True)

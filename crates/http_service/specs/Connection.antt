@@ -1,9 +1,10 @@
 -- What a connection that is served shows, and what a poll of it that waits tells.
-use Rattle.std.specs.Prelude.{◌≡◌, ◌⊎◌, ℕ, Option, Some}
+use Rattle.std.specs.Prelude.{◌≡◌, ◌≤◌, ◌⊎◌, ℕ, ◌+◌, Option, Some, IfSome, Result, Ok, Err, ⊤}
 use Rattle.std.specs.Arc.{arc_value}
 use Rattle.http1_grammar.specs.Limits.{Limits}
 use Rattle.http1_grammar.specs.Wire.{Response}
 use Rattle.service_core.specs.Counts.{Rose}
+use Rattle.service_core.specs.declared.ended.Ended.{Ended}
 use Rattle.service_core.specs.declared.link.Link.{Ghosts as LinkOf}
 use Rattle.service_core.specs.declared.peer.Peer.{Peer}
 use Rattle.service_core.specs.declared.service.Service.{Ghosts as ServiceOf}
@@ -55,6 +56,19 @@ connection_by terms link waits = record {
   waits = waits;
 }
 
+-- the most bytes that a poll takes from the link
+abbrev pub most_taken : ℕ
+most_taken = 4096
+
+-- no more than that was taken between the two
+abbrev pub TookLittle : {L : Type 0} → LinkOf L → L → L → Type 0
+TookLittle g old new = g.taken new ≤ g.taken old + most_taken
+
+-- neither by the poll with which the connection ended
+abbrev pub EndsLittle : {L S X : Type 0} → LinkOf L → Option (Connection L S) → Result (Ended L) X → Type 0
+EndsLittle g before (Ok ended) = IfSome before (λ old. TookLittle g old.link ended.link)
+EndsLittle g before (Err e) = ⊤
+
 module _ {L S E F : Type 0} (g : LinkOf L) (sg : ServiceOf S Request Response E F) (meaning : E → Option Response) where
   -- all that was taken since the service began is answered
   abbrev pub HasAnswered : Connection L S → Type 0
@@ -75,3 +89,4 @@ module _ {L S E F : Type 0} (g : LinkOf L) (sg : ServiceOf S Request Response E 
     pub is : after ≡ Some new
     pub same : new ≡ record old { link = new.link; waits = new.waits }
     pub paused : IsPaused old new
+    pub little : TookLittle g old.link new.link

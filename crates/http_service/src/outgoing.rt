@@ -1,9 +1,9 @@
 ghost use Rattle.std.specs.Prelude.{◌≡◌, ◌≤◌, ◌++◌, [], length, drop, OnOk, OnErr};
-ghost use Rattle.http1_grammar.specs.Wire.{wire_of, refusal};
+ghost use Rattle.http1_grammar.specs.Wire.{wire_of, refusal, continue_line};
 ghost use Rattle.http1_plain.specs.Views.{minor_version};
 
 use http::method::Method;
-use http1_plain::{HttpVersion, Response, write_refusal, write_response};
+use http1_plain::{HttpVersion, Response, write_continue, write_refusal, write_response};
 use service_core::Octets;
 use std::alloc::{AllocError, Global};
 use std::marker::Model;
@@ -76,6 +76,14 @@ impl Outgoing {
         ensures err { OnErr result (self.new ≡ self.old) }
     {
         write_response(&mut self.bytes, method, version, response, closing)
+    }
+
+    /// `100 Continue` waits behind these, or nothing changes.
+    pub(crate) fn push_continue(&mut self) -> Result<(), AllocError>
+        ensures ok { OnOk result (self.new ≡ self.old ++ continue_line) }
+        ensures err { OnErr result (self.new ≡ self.old) }
+    {
+        write_continue(&mut self.bytes)
     }
 
     /// The response that refuses a request waits behind these, or nothing changes.

@@ -1,0 +1,70 @@
+//! The service that stands under the policy.
+ghost use Rattle.std.specs.Prelude.{⊤, None};
+ghost use Rattle.service_core.specs.Meaning.{GivesOnly};
+
+use futures::Future;
+use futures::task::{Context, Poll};
+use http_header::CONTENT_TYPE;
+use http1_plain::{ErrorResponse, FieldValue, Request, Response};
+use service_core::{Ready, Service, err, ok};
+use std::alloc::{AllocError, Global};
+
+/// It answers each request with `Hello world!` as plain text.
+#[derive(Drop)]
+pub struct Hello {
+    /// Where its answers take memory.
+    pub alloc: Global,
+}
+
+/// Memory ran out.
+#[derive(Drop)]
+pub struct HelloFault;
+
+impl ErrorResponse for HelloFault {
+    ghost response = { λ _. None };
+
+    fn into_response(self, _alloc: Global) -> Result<Response, AllocError> {
+        Err(AllocError)
+    }
+}
+
+// The response to every request.
+fn response(alloc: Global) -> Result<Response, HelloFault> {
+    let mut response = Response::new(alloc, 200);
+    response.set_static_body(b"Hello world!");
+    let value = FieldValue::from_static(alloc, b"text/plain");
+    match response.headers_mut().append(CONTENT_TYPE, value) {
+        Ok(()) => Ok(response),
+        Err(_) => {
+            drop(response);
+            Err(HelloFault)
+        }
+    }
+}
+
+impl Service<Request> for Hello {
+    type Response = Response;
+
+    type Error = HelloFault;
+
+    type Future = Ready<Result<Response, HelloFault>>;
+
+    ghost may = { λ _ _ _. ⊤ };
+
+    ghost may_ready = { λ _ _. ⊤ };
+
+    ghost may_begin = { λ _ _ f. GivesOnly ⟦<Ready<Result<Response, HelloFault>> as Future>⟧ f (λ _. ⊤) };
+
+    ghost begun_gives = { λ s q f h. h };
+
+    fn poll_ready(&self, _cx: &mut Context<'_>) -> Poll<Result<(), HelloFault>> {
+        Poll::Ready(Ok(()))
+    }
+
+    fn call(&self, _req: Request) -> Ready<Result<Response, HelloFault>> {
+        match response(self.alloc) {
+            Ok(response) => ok(response),
+            Err(fault) => err(fault),
+        }
+    }
+}
