@@ -1,1 +1,6 @@
+mod BodySteps
+mod ChunkSteps
 mod PlainSteps
+mod TokenSteps
+mod TurnSteps
+mod WireSteps

@@ -1,5 +1,5 @@
 //! How a request's body is framed.
-ghost use Rattle.std.specs.Prelude.{◌≡◌, ◌<◌, ◌^◌, ℕ, None, Some, filter, if◌then◌else◌, map, nat_lt, true, IfOk};
+ghost use Rattle.std.specs.Prelude.{◌≡◌, ℕ, None, Some, filter, if◌then◌else◌, map, nat_lt, true, IfOk};
 ghost use Rattle.std.specs.List.{list_all};
 ghost use Rattle.std.specs.Char.{is_ascii_digit};
 ghost use Rattle.std.specs.Str.Parse.{digits_value};
@@ -11,8 +11,8 @@ use crate::head::{Head, Header};
 use http1_head::Framing;
 use std::alloc::{AllocError, Global};
 
-// The headers of the name, in order.
-fn named<'a>(
+/// The headers of the name, in order.
+pub(crate) fn named<'a>(
     alloc: Global,
     headers: &'a [Header],
     name: &[u8],
@@ -27,19 +27,18 @@ fn named<'a>(
 
 // The number that the digits write, unless it is above the limit.
 fn number_up_to(digits: &[u8], most: usize) -> Option<usize>
-    requires limit { most < 2 ^ 32 }
     requires digits { list_all is_ascii_digit digits.now ≡ true }
     ensures { result ≡ (if nat_lt most (digits_value 10 digits.now) then None
         else Some (digits_value 10 digits.now)) }
 {
     let mut number = 0;
     for digit in digits {
-        number = number * 10 + usize::from(*digit - b'0');
-        if number > most {
+        number = number * 10 + u128::from(*digit - b'0');
+        if number > most as u128 {
             return None;
         }
     }
-    Some(number)
+    Some(number as usize)
 }
 
 fn are_digits(value: &[u8]) -> bool
@@ -49,7 +48,6 @@ fn are_digits(value: &[u8]) -> bool
 }
 
 fn number_framing(value: &[u8], most: usize) -> Framing
-    requires { most < 2 ^ 32 }
     ensures { result ≡ capped most (number_framing value.now) }
 {
     if value.is_empty() || !are_digits(value) {
@@ -73,7 +71,6 @@ fn coding_framing(minor: u8, coding: &[u8]) -> Framing
 
 // The framing of the version, the headers `Transfer-Encoding` and the headers `Content-Length`.
 fn framing_by(minor: u8, codings: &[&Header], lengths: &[&Header], most: usize) -> Framing
-    requires { most < 2 ^ 32 }
     ensures { result ≡ capped most (framing_by minor
         (map (λ header. header.now.1) codings.now) (map (λ header. header.now.1) lengths.now)) }
 {
@@ -94,7 +91,6 @@ fn framing_by(minor: u8, codings: &[&Header], lengths: &[&Header], most: usize) 
 /// The framing of the request's body, of which at most so many bytes are read.
 #[tactic(auto, unfolding(http1_grammar::specs::Framing::framing))]
 pub(crate) fn framing(alloc: Global, head: &Head, most: usize) -> Result<Framing, AllocError>
-    requires { most < 2 ^ 32 }
     ensures { IfOk result (λ found. found ≡ capped most (framing head.now)) }
 {
     let codings = named(alloc, head.headers(), b"transfer-encoding")?;

@@ -1,13 +1,23 @@
 //! What a connection writes (RFC 9112) by a plain slow program over lists, byte by byte, which is proved to be the definition
-//! of `http_service`, of a service that echoes targets. It calls neither the code that serves connections nor what that
-//! stands on to read a head, and nothing calls it but the tests, which compare the two.
+//! of `http1_grammar`, of a service that echoes requests. It calls neither the code that serves connections nor what that
+//! stands on to read requests and to write responses, and nothing calls it but the tests, which compare the two.
 #![tactic(auto)]
 
-mod answers;
+mod bodies;
+mod body;
+mod chunk_line;
+mod chunks;
+mod connection;
+mod echo;
 mod framing;
 mod head;
 mod lines;
 mod next;
+mod piece;
 mod request_text;
+mod status;
+mod tokens;
+mod turn;
+mod wire;
 
-pub use answers::answers_one;
+pub use connection::answers;

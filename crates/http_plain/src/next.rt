@@ -7,13 +7,14 @@ use crate::framing::framing;
 use crate::head::Head;
 use crate::lines::{count_lines, head_len, skip_empty_lines};
 use crate::request_text::request_head;
+use crate::status::Status;
 use http1_head::Framing;
 use http1_plain::Limits;
 use service_core::Octets;
 use std::alloc::{AllocError, Global};
 
 /// A head and the bytes behind it, nothing where more bytes decide it, or the status that refuses it.
-pub(crate) type Step = Result<Option<(Head, Octets)>, u16>;
+pub(crate) type Step = Result<Option<(Head, Octets)>, Status>;
 
 const MOST_LINES: usize = 98;
 
@@ -22,18 +23,18 @@ fn judge(alloc: Global, limits: Limits, text: &[u8], rest: &[u8]) -> Result<Step
     ensures { IfOk result (λ step. step_by step ≡ judge limits text.now rest.now) }
 {
     if count_lines(text) > MOST_LINES {
-        return Ok(Err(431));
+        return Ok(Err(Status::FieldsTooLarge));
     }
     let Some(head) = request_head(alloc, text)? else {
-        return Ok(Err(400));
+        return Ok(Err(Status::BadRequest));
     };
     match framing(alloc, &head, limits.body())? {
         Framing::Empty | Framing::Sized(_) | Framing::Chunked => {
             let rest = Octets::of(alloc, rest)?;
             Ok(Ok(Some((head, rest))))
         }
-        Framing::TooLarge => Ok(Err(413)),
-        Framing::Faulty => Ok(Err(400)),
+        Framing::TooLarge => Ok(Err(Status::TooLarge)),
+        Framing::Faulty => Ok(Err(Status::BadRequest)),
     }
 }
 
@@ -50,7 +51,7 @@ fn next_head(alloc: Global, limits: Limits, bytes: &[u8]) -> Result<Step, AllocE
         Some(len) => judge(alloc, limits, &bytes[..len], &bytes[len..]),
         None => {
             if most <= bytes.len() {
-                Ok(Err(431))
+                Ok(Err(Status::FieldsTooLarge))
             } else {
                 Ok(Ok(None))
             }

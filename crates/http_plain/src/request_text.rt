@@ -71,7 +71,8 @@ fn is_target(target: &[u8]) -> bool
     target.len() > 0 && are_uri_bytes(target) && is_utf8(target)
 }
 
-fn lowercase(alloc: Global, bytes: &[u8]) -> Result<Octets, AllocError>
+/// The bytes with each letter in lower case.
+pub(crate) fn lowercase(alloc: Global, bytes: &[u8]) -> Result<Octets, AllocError>
     ensures { IfOk result (λ lower. lower ≡ lowercase bytes.now) }
 {
     let lower: Vec<u8> = bytes.iter().map(|b| b.to_ascii_lowercase()).collect(alloc)?;
@@ -94,8 +95,9 @@ fn reversed(alloc: Global, bytes: &[u8]) -> Result<Octets, AllocError>
     Ok(Octets::from_vec(back))
 }
 
+/// The bytes without the spaces and tabs at both ends.
 #[tactic(auto, unfolding(httparse::specs::Grammar::trim_ows))]
-fn trim_ows(alloc: Global, bytes: &[u8]) -> Result<Octets, AllocError>
+pub(crate) fn trim_ows(alloc: Global, bytes: &[u8]) -> Result<Octets, AllocError>
     ensures { IfOk result (λ value. value ≡ trim_ows bytes.now) }
 {
     let back = reversed(alloc, skip_ows(bytes))?;

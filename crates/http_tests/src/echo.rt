@@ -1,12 +1,12 @@
 //! The service of the tests.
-ghost use Rattle.std.specs.Prelude.{⊤, None, Some, []};
+ghost use Rattle.std.specs.Prelude.{◌≤◌, ⊤, None, Some, []};
 ghost use Rattle.service_core.specs.Meaning.{GivesOnly};
 ghost use Rattle.http_tests.specs.declared.echo.EchoError.TheVariants.{Missing, Memory};
 
 use futures::Future;
 use futures::task::{Context, Poll};
 use http1_plain::{ErrorResponse, Request, Response};
-use service_core::{Ready, Service, err, ok};
+use service_core::{Octets, Ready, Service, err, ok};
 use std::alloc::{AllocError, Global};
 
 /// Why a request has no answer of its own.
@@ -32,24 +32,40 @@ impl ErrorResponse for EchoError {
     }
 }
 
-/// Answers each request with its target, and `/none` with an error.
+/// Answers each request with its target, LF and its body, `/none` with an error, and `/empty` by the status 204.
 #[derive(Drop)]
 pub(crate) struct Echo {
     pub(crate) alloc: Global,
 }
 
-// The response with the target.
-fn echoed(alloc: Global, req: &Request) -> Result<Response, EchoError> {
-    if req.head.target.as_bytes() == b"/none".as_slice() {
-        return Err(EchoError::Missing);
-    }
-    match req.head.target.copy() {
-        Ok(body) => {
-            let mut response = Response::new(alloc, 200);
-            response.set_body(body);
+// The target and the body, with LF between them.
+fn text_of(req: &Request) -> Result<Octets, AllocError> {
+    let mut text = req.head.target.copy()?;
+    text.push_all(b"\n")?;
+    text.push_all(req.body.as_bytes())?;
+    Ok(text)
+}
+
+// The response of this status, with the text.
+fn texted(alloc: Global, status: u16, req: &Request) -> Result<Response, EchoError>
+    requires low { 200 ≤ status }
+    requires high { status ≤ 999 }
+{
+    match text_of(req) {
+        Ok(text) => {
+            let mut response = Response::new(alloc, status);
+            response.set_body(text);
             Ok(response)
         }
         Err(_) => Err(EchoError::Memory),
+    }
+}
+
+fn echoed(alloc: Global, req: &Request) -> Result<Response, EchoError> {
+    match req.head.target.as_bytes() {
+        b"/none" => Err(EchoError::Missing),
+        b"/empty" => texted(alloc, 204, req),
+        _ => texted(alloc, 200, req),
     }
 }
 

@@ -3,7 +3,13 @@
 #![tactic(auto)]
 
 #[cfg(test)]
+mod answering;
+#[cfg(test)]
+mod damage_tests;
+#[cfg(test)]
 mod echo;
+#[cfg(test)]
+mod fault_tests;
 #[cfg(test)]
 mod head_tests;
 #[cfg(test)]

@@ -43,6 +43,7 @@ pub(crate) struct TestLink {
     write_faults: u64,
     read_waits: u64,
     write_waits: u64,
+    writes: u64,
     ghost in_range: { taken ≤ length held },
 }
 
@@ -59,12 +60,18 @@ impl TestLink {
             write_faults: 0,
             read_waits: 0,
             write_waits: 0,
+            writes: 0,
         })
     }
 
     /// Whether this was written.
     pub(crate) fn is_written(&self, text: &[u8]) -> bool {
         self.written.as_bytes() == text
+    }
+
+    /// How many bytes were taken, and by how many calls bytes were written.
+    pub(crate) fn moved(&self) -> (usize, u64) {
+        (self.taken, self.writes)
     }
 
     // The most bytes that a call moves, of so many.
@@ -134,6 +141,7 @@ impl Link for TestLink {
             return Poll::Ready(Err(LinkFault::Failed));
         }
         let count = self.piece_of(piece.len());
+        self.writes = self.writes.saturating_add(1);
         match self.written.push_all(&piece[..count]) {
             Ok(()) => Poll::Ready(Ok(count)),
             Err(_) => Poll::Ready(Err(LinkFault::Memory)),

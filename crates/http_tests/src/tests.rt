@@ -1,297 +1,223 @@
 //! A connection from its bytes to its answers.
+use crate::answering::{answered, answered_alike};
 use crate::echo::{Echo, EchoError};
-use crate::serving::{OK, OK_REFUSED, REFUSED, handler, is_served};
+use crate::serving::{BAD, FIELDS_TOO_LARGE, OK, TOO_LARGE, handler, is_served, moved_by};
 use crate::test_link::{TestLink, Way};
 use futures::task::{Context, Poll};
 use futures::test::MockTask;
 use http_service::{
-    H1ServiceHandler, more_is_refused, one_plain_request, refusal_text, served_writes,
+    H1ServiceHandler, answers_come_in_order, nothing_follows_a_closing_answer,
+    nothing_follows_a_refusal, served_writes,
 };
-use service_core::{How, Link, Peer, Service};
-use std::alloc::{AllocError, AllocGlobal, Global};
-use std::random::RandomSource;
+use service_core::{Link, Octets, Service};
+use std::alloc::{AllocError, Global};
 use std::test::Fail;
 
-const GET: &[u8] = b"GET /a HTTP/1.1\r\nHost: x\r\n\r\n";
-
-// A plain GET with a byte behind it.
-const GET_AND_MORE: &[u8] = b"GET /a HTTP/1.1\r\nHost: x\r\n\r\nG";
-
-// The most polls that a connection needs here.
-const MANY: usize = 1000;
-
-// In which pieces the bytes come, and whether each is waited for.
-const PIECES: [(usize, bool); 5] = [
-    (4096, false),
-    (4096, true),
-    (1, false),
-    (1, true),
-    (7, true),
-];
-
-// Whether the connection writes this text, and ends as served, however its bytes come.
-fn is_answered(
-    task: &MockTask,
-    alloc: Global,
-    bytes: &[u8],
-    text: &[u8],
-) -> Result<bool, AllocError> {
-    for (piece, pauses) in PIECES {
-        let served = (bytes, Way::of(piece, pauses), MANY);
-        if !is_served(task, alloc, served, Some(How::Served), text)? {
-            return Ok(false);
-        }
-    }
-    Ok(true)
-}
-
-// Whether each of the bytes is answered so.
-fn are_answered(
-    task: &MockTask,
-    alloc: Global,
-    rows: &[&[u8]],
-    text: &[u8],
-) -> Result<bool, AllocError> {
-    for bytes in rows {
-        if !is_answered(task, alloc, bytes, text)? {
-            return Ok(false);
-        }
-    }
-    Ok(true)
-}
-
-// The same, with a task of its own.
-fn answered<R: RandomSource + AllocGlobal>(
-    rt: &R,
-    rows: &[&[u8]],
-    text: &[u8],
-) -> Result<bool, Fail> {
-    let task = MockTask::new(rt)?;
-    Ok(are_answered(&task, rt.alloc(), rows, text)?)
-}
+const GET: &[u8] = b"GET /a HTTP/1.1\r\n\r\n";
 
 #[test]
-fn a_plain_get_is_answered_by_the_service(rt: HostRuntime) -> Result<(), Fail> {
-    assert!(rt; answered(&rt, &[GET], OK)?);
-    Ok(())
-}
-
-#[test]
-fn an_error_of_the_service_is_answered(rt: HostRuntime) -> Result<(), Fail> {
-    let bytes: &[u8] = b"GET /none HTTP/1.1\r\n\r\n";
-    let text = b"HTTP/1.1 404 Not Found\r\ncontent-length: 0\r\n\r\n";
-    assert!(rt; answered(&rt, &[bytes], text)?);
-    Ok(())
-}
-
-#[test]
-fn a_second_request_is_refused_behind_the_answer(rt: HostRuntime) -> Result<(), Fail> {
-    let bytes: &[u8] = b"GET /a HTTP/1.1\r\n\r\nGET /b HTTP/1.1\r\n\r\n";
-    assert!(rt; answered(&rt, &[bytes], OK_REFUSED)?);
-    Ok(())
-}
-
-#[test]
-fn a_post_is_refused(rt: HostRuntime) -> Result<(), Fail> {
-    let rows: [&[u8]; 2] = [
-        b"POST /a HTTP/1.1\r\nContent-Length: 3\r\n\r\nxyz",
-        b"POST /a HTTP/1.1\r\n\r\n",
+fn a_get_is_answered_by_the_service(rt: HostRuntime) -> Result<(), Fail> {
+    let rows: [(&[u8], &[u8]); 2] = [
+        (GET, OK),
+        (
+            b"GET /none HTTP/1.1\r\n\r\n",
+            b"HTTP/1.1 404 Not Found\r\ncontent-length: 0\r\n\r\n",
+        ),
     ];
-    assert!(rt; answered(&rt, &rows, REFUSED)?);
+    assert!(rt; answered(&rt, &rows)?);
     Ok(())
 }
 
 #[test]
-fn a_head_request_is_refused(rt: HostRuntime) -> Result<(), Fail> {
-    assert!(rt; answered(&rt, &[b"HEAD /a HTTP/1.1\r\n\r\n"], REFUSED)?);
-    Ok(())
-}
-
-#[test]
-fn a_get_of_version_1_0_is_refused(rt: HostRuntime) -> Result<(), Fail> {
-    assert!(rt; answered(&rt, &[b"GET /a HTTP/1.0\r\n\r\n"], REFUSED)?);
-    Ok(())
-}
-
-#[test]
-fn a_get_that_asks_something_of_the_connection_is_refused(rt: HostRuntime) -> Result<(), Fail> {
-    let rows: [&[u8]; 5] = [
-        b"GET /a HTTP/1.1\r\nConnection: close\r\n\r\n",
-        b"GET /a HTTP/1.1\r\nContent-Length: 0\r\n\r\n",
-        b"GET /a HTTP/1.1\r\nExpect: 100-continue\r\n\r\n",
-        b"GET /a HTTP/1.1\r\nTransfer-Encoding: chunked\r\n\r\n",
-        b"GET /a HTTP/1.1\r\nUpgrade: h2c\r\n\r\n",
+fn pipelined_requests_are_answered_in_order(rt: HostRuntime) -> Result<(), Fail> {
+    let rows: [(&[u8], &[u8]); 2] = [
+        (
+            b"GET /a HTTP/1.1\r\n\r\nOPTIONS * HTTP/1.1\r\nHost: x\r\n\r\nGET /none HTTP/1.1\r\n\r\n",
+            b"HTTP/1.1 200 OK\r\ncontent-length: 3\r\n\r\n/a\n\
+HTTP/1.1 200 OK\r\ncontent-length: 2\r\n\r\n*\n\
+HTTP/1.1 404 Not Found\r\ncontent-length: 0\r\n\r\n",
+        ),
+        (
+            b"POST /b HTTP/1.1\r\nContent-Length: 2\r\n\r\nxyGET /a HTTP/1.1\r\n\r\n",
+            b"HTTP/1.1 200 OK\r\ncontent-length: 5\r\n\r\n/b\nxy\
+HTTP/1.1 200 OK\r\ncontent-length: 3\r\n\r\n/a\n",
+        ),
     ];
-    assert!(rt; answered(&rt, &rows, REFUSED)?);
+    assert!(rt; answered(&rt, &rows)?);
     Ok(())
 }
 
-#[test]
-fn a_head_that_is_too_long_is_refused(rt: HostRuntime) -> Result<(), Fail> {
-    let bytes: &[u8] =
-        b"GET /aaaaaaaaaaaaaaaaaaaaaaaaaaaaaaaaaaaaaaaaaaaaaaaaaaaaaaaaaaaaaaaaaaa HTTP/1.1\r\n\r\n";
-    assert!(rt; answered(&rt, &[bytes], REFUSED)?);
-    Ok(())
-}
+// The answer to a request with the target `/a` and the body `hello`.
+const HELLO: &[u8] = b"HTTP/1.1 200 OK\r\ncontent-length: 8\r\n\r\n/a\nhello";
 
 #[test]
-fn a_broken_head_is_refused(rt: HostRuntime) -> Result<(), Fail> {
-    assert!(rt; answered(&rt, &[b"GET\r\n\r\n"], REFUSED)?);
-    Ok(())
-}
-
-// Whether nothing is answered to each front of the bytes.
-fn fronts_are_unanswered(task: &MockTask, alloc: Global, bytes: &[u8]) -> Result<bool, AllocError> {
-    for end in 0..bytes.len() {
-        if !is_answered(task, alloc, &bytes[..end], b"")? {
-            return Ok(false);
-        }
-    }
-    Ok(true)
-}
-
-#[test]
-fn a_get_cut_short_anywhere_is_not_answered(rt: HostRuntime) -> Result<(), Fail> {
-    let task = MockTask::new(&rt)?;
-    assert!(rt; fronts_are_unanswered(&task, rt.alloc(), GET)?);
-    assert!(rt; is_answered(&task, rt.alloc(), GET, OK)?);
-    Ok(())
-}
-
-// Whether only a whole head is answered, where the read fails that begins once so many bytes were taken.
-fn reads_fail_at(
-    task: &MockTask,
-    alloc: Global,
-    row: (usize, bool, usize),
-    text: &[u8],
-) -> Result<bool, AllocError> {
-    let (piece, pauses, most_read) = row;
-    let way = Way {
-        piece,
-        pauses,
-        most_read,
-        most_written: usize::MAX,
-    };
-    is_served(task, alloc, (GET, way, MANY), Some(How::ReadFault), text)
-}
-
-// The same for each row.
-fn reads_fail(
-    task: &MockTask,
-    alloc: Global,
-    rows: &[(usize, bool, usize)],
-    text: &[u8],
-) -> Result<bool, AllocError> {
-    for row in rows {
-        if !reads_fail_at(task, alloc, *row, text)? {
-            return Ok(false);
-        }
-    }
-    Ok(true)
-}
-
-// Whether nothing is answered, where a read fails before the head is whole.
-fn reads_fail_anywhere(task: &MockTask, alloc: Global) -> Result<bool, AllocError> {
-    for most_read in 0..GET.len() {
-        let rows = [(1, false, most_read), (1, true, most_read)];
-        if !reads_fail(task, alloc, &rows, b"")? {
-            return Ok(false);
-        }
-    }
-    Ok(true)
-}
-
-#[test]
-fn a_read_fault_anywhere_ends_it_with_what_was_taken_answered(rt: HostRuntime) -> Result<(), Fail> {
-    let task = MockTask::new(&rt)?;
-    let alloc = rt.alloc();
-    let unanswered = [
-        (7, true, 0),
-        (7, true, 7),
-        (7, true, 14),
-        (7, true, 21),
-        (4096, true, 0),
+fn bodies_are_read_by_their_length(rt: HostRuntime) -> Result<(), Fail> {
+    let rows: [&[u8]; 3] = [
+        b"POST /a HTTP/1.1\r\nContent-Length: 5\r\n\r\nhello",
+        b"PUT /a HTTP/1.1\r\ncontent-length:005 \r\n\r\nhello\r\n",
+        b"GET /a HTTP/1.1\nContent-Length: 5\n\nhelloGET /b HTTP/1.1\r\n",
     ];
-    let len = GET.len();
-    let answered = [(1, true, len), (7, true, len), (4096, true, len)];
-    assert!(rt; reads_fail_anywhere(&task, alloc)?);
-    assert!(rt; reads_fail(&task, alloc, &unanswered, b"")?);
-    assert!(rt; reads_fail(&task, alloc, &answered, OK)?);
+    assert!(rt; answered_alike(&rt, &rows, HELLO)?);
     Ok(())
-}
-
-// Whether a byte behind the head is refused, where reads would fail behind it.
-fn is_refused_behind(task: &MockTask, alloc: Global, most_read: usize) -> Result<bool, AllocError> {
-    let way = Way {
-        piece: 1,
-        pauses: false,
-        most_read,
-        most_written: usize::MAX,
-    };
-    is_served(
-        task,
-        alloc,
-        (GET_AND_MORE, way, MANY),
-        Some(How::Served),
-        OK_REFUSED,
-    )
 }
 
 #[test]
-fn no_read_behind_the_refusal_is_tried(rt: HostRuntime) -> Result<(), Fail> {
-    let task = MockTask::new(&rt)?;
-    assert!(rt; is_refused_behind(&task, rt.alloc(), GET_AND_MORE.len())?);
-    assert!(rt; is_refused_behind(&task, rt.alloc(), usize::MAX)?);
+fn bodies_are_read_in_chunks(rt: HostRuntime) -> Result<(), Fail> {
+    let rows: [&[u8]; 6] = [
+        b"POST /a HTTP/1.1\r\nTransfer-Encoding: chunked\r\n\r\n5\r\nhello\r\n0\r\n\r\n",
+        b"POST /a HTTP/1.1\r\nTransfer-Encoding: Chunked\r\n\r\n2\r\nhe\r\n03\r\nllo\r\n00\r\n\n",
+        b"POST /a HTTP/1.1\r\nTransfer-Encoding: chunked\r\n\r\n5;a=\"b\"\r\nhello\r\n0;last\r\n\r\n",
+        b"POST /a HTTP/1.1\r\nTransfer-Encoding: chunked\r\n\r\n5 junk\r\nhello\r\n0\t\r\n\r\n",
+        b"POST /a HTTP/1.1\r\nTransfer-Encoding: chunked\r\n\r\n5\r\nhello\r\n0\r\nA: b\r\nC: d\r\n\r\n",
+        b"POST /a HTTP/1.1\r\nTransfer-Encoding: chunked\r\n\r\n5\r\nhello\r\n0\r\nA: b\n\nGET",
+    ];
+    assert!(rt; answered_alike(&rt, &rows, HELLO)?);
     Ok(())
 }
 
-// Whether it ends so and wrote this, where the write fails that begins once so many bytes were written.
-fn writes_fail_at(
+#[test]
+fn a_head_request_and_no_content_have_no_body(rt: HostRuntime) -> Result<(), Fail> {
+    let rows: [(&[u8], &[u8]); 3] = [
+        (
+            b"HEAD /a HTTP/1.1\r\n\r\nGET /a HTTP/1.1\r\n\r\n",
+            b"HTTP/1.1 200 OK\r\ncontent-length: 3\r\n\r\nHTTP/1.1 200 OK\r\ncontent-length: 3\r\n\r\n/a\n",
+        ),
+        (
+            b"GET /empty HTTP/1.1\r\n\r\nGET /a HTTP/1.1\r\n\r\n",
+            b"HTTP/1.1 204 No Content\r\n\r\nHTTP/1.1 200 OK\r\ncontent-length: 3\r\n\r\n/a\n",
+        ),
+        (
+            b"HEAD /empty HTTP/1.1\r\nConnection: close\r\n\r\n",
+            b"HTTP/1.1 204 No Content\r\nconnection: close\r\n\r\n",
+        ),
+    ];
+    assert!(rt; answered(&rt, &rows)?);
+    Ok(())
+}
+
+// The answer to a request with the target `/a` and no body, behind which the connection closes.
+const OK_CLOSING: &[u8] = b"HTTP/1.1 200 OK\r\ncontent-length: 3\r\nconnection: close\r\n\r\n/a\n";
+
+#[test]
+fn nothing_behind_a_closing_answer_is_answered(rt: HostRuntime) -> Result<(), Fail> {
+    let rows: [&[u8]; 4] = [
+        b"GET /a HTTP/1.1\r\nConnection: close\r\n\r\nGET /b HTTP/1.1\r\n\r\n",
+        b"GET /a HTTP/1.1\r\nConnection: x, Close\r\n\r\nG",
+        b"GET /a HTTP/1.0\r\n\r\nGET /b HTTP/1.0\r\n\r\n",
+        b"GET /a HTTP/1.0\r\nConnection: close, keep-alive\r\n\r\n",
+    ];
+    assert!(rt; answered_alike(&rt, &rows, OK_CLOSING)?);
+    Ok(())
+}
+
+#[test]
+fn version_1_0_stays_where_it_asks(rt: HostRuntime) -> Result<(), Fail> {
+    let rows: [(&[u8], &[u8]); 1] = [(
+        b"GET /a HTTP/1.0\r\nConnection: Keep-Alive\r\n\r\nGET /a HTTP/1.0\r\n\r\n",
+        b"HTTP/1.1 200 OK\r\ncontent-length: 3\r\nconnection: keep-alive\r\n\r\n/a\n\
+HTTP/1.1 200 OK\r\ncontent-length: 3\r\nconnection: close\r\n\r\n/a\n",
+    )];
+    assert!(rt; answered(&rt, &rows)?);
+    Ok(())
+}
+
+#[test]
+fn continue_is_written_once(rt: HostRuntime) -> Result<(), Fail> {
+    let rows: [(&[u8], &[u8]); 4] = [
+        (
+            b"POST /a HTTP/1.1\r\nExpect: 100-continue\r\nContent-Length: 1\r\n\r\n",
+            b"HTTP/1.1 100 Continue\r\n\r\n",
+        ),
+        (
+            b"POST /a HTTP/1.1\r\nExpect: 100-Continue\r\nContent-Length: 1\r\n\r\nxGET /a HTTP/1.1\r\n\r\n",
+            b"HTTP/1.1 100 Continue\r\n\r\nHTTP/1.1 200 OK\r\ncontent-length: 4\r\n\r\n/a\nx\
+HTTP/1.1 200 OK\r\ncontent-length: 3\r\n\r\n/a\n",
+        ),
+        (
+            b"GET /a HTTP/1.1\r\nExpect: 100-continue\r\n\r\n",
+            b"HTTP/1.1 100 Continue\r\n\r\nHTTP/1.1 200 OK\r\ncontent-length: 3\r\n\r\n/a\n",
+        ),
+        (
+            b"GET /a HTTP/1.0\r\nExpect: 100-continue\r\n\r\n",
+            OK_CLOSING,
+        ),
+    ];
+    assert!(rt; answered(&rt, &rows)?);
+    Ok(())
+}
+
+#[test]
+fn what_has_no_form_is_refused(rt: HostRuntime) -> Result<(), Fail> {
+    let rows: [&[u8]; 7] = [
+        b"GET\r\n\r\nGET /a HTTP/1.1\r\n\r\n",
+        b"POST /a HTTP/1.1\r\nContent-Length: +1\r\n\r\nx",
+        b"POST /a HTTP/1.1\r\nContent-Length: 1\r\nContent-Length: 1\r\n\r\nx",
+        b"POST /a HTTP/1.1\r\nTransfer-Encoding: gzip, chunked\r\n\r\n",
+        b"POST /a HTTP/1.0\r\nTransfer-Encoding: chunked\r\n\r\n0\r\n\r\n",
+        b"POST /a HTTP/1.1\r\nTransfer-Encoding: chunked\r\n\r\n5\nhello\r\n0\r\n\r\n",
+        b"POST /a HTTP/1.1\r\nTransfer-Encoding: chunked\r\n\r\n1\r\nhello\r\n0\r\n\r\n",
+    ];
+    assert!(rt; answered_alike(&rt, &rows, BAD)?);
+    Ok(())
+}
+
+#[test]
+fn a_body_above_the_limit_is_refused(rt: HostRuntime) -> Result<(), Fail> {
+    let rows: [&[u8]; 4] = [
+        b"POST /a HTTP/1.1\r\nContent-Length: 1025\r\n\r\n",
+        b"POST /a HTTP/1.1\r\nContent-Length: 99999999999999999999\r\n\r\n",
+        b"POST /a HTTP/1.1\r\nTransfer-Encoding: chunked\r\n\r\n401\r\n",
+        b"POST /a HTTP/1.1\r\nTransfer-Encoding: chunked\r\n\r\n1\r\nx\r\nffffffffffffffff\r\n",
+    ];
+    assert!(rt; answered_alike(&rt, &rows, TOO_LARGE)?);
+    Ok(())
+}
+
+#[test]
+fn a_head_above_the_limit_is_refused_before_it_is_read(rt: HostRuntime) -> Result<(), Fail> {
+    let rows: [&[u8]; 3] = [
+        b"GET /aaaaaaaaaaaaaaaaaaaaaaaaaaaaaaaaaaaaaaaaaaaaaaaaaaaaaaaaaaaaaaaaaaa HTTP/1.1\r\n\r\n",
+        b"G@T\r\naaaaaaaaaaaaaaaaaaaaaaaaaaaaaaaaaaaaaaaaaaaaaaaaaaaaaaaaaaa\r\n\r\n",
+        b"POST /a HTTP/1.1\r\nTransfer-Encoding: chunked\r\n\r\n0\r\n\
+A: 0123456789012345678901234567890123456789012345678901234567890123456789",
+    ];
+    assert!(rt; answered_alike(&rt, &rows, FIELDS_TOO_LARGE)?);
+    Ok(())
+}
+
+// So many times the text.
+fn repeated(alloc: Global, text: &[u8], count: usize) -> Result<Octets, AllocError> {
+    let mut all = Octets::new(alloc);
+    for _ in 0..count {
+        all.push_all(text)?;
+    }
+    Ok(all)
+}
+
+// Whether so many polls of a connection with so many requests take so many bytes, and write by so many calls.
+fn are_moved(
     task: &MockTask,
     alloc: Global,
-    row: (usize, bool, usize),
-    how: How,
-    text: &[u8],
+    served: (usize, usize),
+    wanted: (usize, u64),
 ) -> Result<bool, AllocError> {
-    let (piece, pauses, most_written) = row;
-    let way = Way {
-        piece,
-        pauses,
-        most_read: usize::MAX,
-        most_written,
-    };
-    is_served(task, alloc, (GET_AND_MORE, way, MANY), Some(how), text)
-}
-
-// Whether the answers are written up to where a write fails, wherever that is.
-fn writes_fail_anywhere(task: &MockTask, alloc: Global, pauses: bool) -> Result<bool, AllocError> {
-    for most in 0..OK_REFUSED.len() {
-        let row = (1, pauses, most);
-        if !writes_fail_at(task, alloc, row, How::WriteFault, &OK_REFUSED[..most])? {
-            return Ok(false);
-        }
-    }
-    Ok(true)
+    let bytes = repeated(alloc, GET, served.0)?;
+    Ok(moved_by(task, alloc, bytes.as_bytes(), served.1)? == wanted)
 }
 
 #[test]
-fn a_write_fault_anywhere_ends_it_with_a_front_of_the_answers(rt: HostRuntime) -> Result<(), Fail> {
+fn forty_pipelined_requests_are_answered_by_one_write(rt: HostRuntime) -> Result<(), Fail> {
     let task = MockTask::new(&rt)?;
-    let alloc = rt.alloc();
-    assert!(rt; writes_fail_anywhere(&task, alloc, false)?);
-    assert!(rt; writes_fail_anywhere(&task, alloc, true)?);
-    assert!(rt; writes_fail_at(&task, alloc, (4, true, 8), How::WriteFault, b"HTTP/1.1")?);
-    assert!(rt; writes_fail_at(&task, alloc, (4, true, 6), How::WriteFault, b"HTTP/1.1")?);
+    assert!(rt; are_moved(&task, rt.alloc(), (40, 1), (760, 1))?);
+    assert!(rt; are_moved(&task, rt.alloc(), (40, 9), (760, 1))?);
     Ok(())
 }
 
 #[test]
-fn a_link_that_takes_one_byte_a_write_gets_whole_answers(rt: HostRuntime) -> Result<(), Fail> {
+fn a_poll_takes_at_most_4096_bytes(rt: HostRuntime) -> Result<(), Fail> {
     let task = MockTask::new(&rt)?;
-    let alloc = rt.alloc();
-    let len = OK_REFUSED.len();
-    assert!(rt; writes_fail_at(&task, alloc, (1, false, len), How::Served, OK_REFUSED)?);
-    assert!(rt; writes_fail_at(&task, alloc, (1, true, len), How::Served, OK_REFUSED)?);
+    assert!(rt; are_moved(&task, rt.alloc(), (300, 1), (4096, 1))?);
+    assert!(rt; are_moved(&task, rt.alloc(), (300, 2), (5700, 2))?);
     Ok(())
 }
 
@@ -331,9 +257,9 @@ fn it_is_ready_when_its_service_is(rt: HostRuntime) -> Result<(), Fail> {
 
 #[test]
 fn the_laws_run(rt: HostRuntime) {
-    refusal_text();
-    one_plain_request::<Peer>();
-    more_is_refused::<Peer>();
+    answers_come_in_order();
+    nothing_follows_a_closing_answer();
+    nothing_follows_a_refusal();
     served_writes::<TestLink, Echo>();
     assert!(rt; true);
 }

@@ -1,0 +1,114 @@
+//! Answers that are looked at: by the definition, and by the connection however its bytes come.
+use crate::serving::{is_served, limits};
+use crate::test_link::Way;
+use futures::test::MockTask;
+use http_plain::answers;
+use service_core::{How, Octets};
+use std::alloc::{AllocError, AllocGlobal, Global};
+use std::random::RandomSource;
+use std::test::Fail;
+
+/// The most polls that a connection needs here.
+pub(crate) const MANY: usize = 10_000;
+
+// In which pieces the bytes come, and whether each is waited for.
+const PIECES: [(usize, bool); 5] = [
+    (4096, false),
+    (4096, true),
+    (1, false),
+    (1, true),
+    (7, true),
+];
+
+/// What the definition says that the connection of the bytes writes.
+pub(crate) fn defined(alloc: Global, bytes: &[u8]) -> Result<Octets, AllocError> {
+    answers(alloc, limits(), bytes)
+}
+
+/// Whether the connection writes this text, and ends as served, where its bytes come so.
+pub(crate) fn is_written(
+    task: &MockTask,
+    alloc: Global,
+    bytes: &[u8],
+    way: Way,
+    text: &[u8],
+) -> Result<bool, AllocError> {
+    is_served(task, alloc, (bytes, way, MANY), Some(How::Served), text)
+}
+
+// The same however its bytes come.
+fn is_always_written(
+    task: &MockTask,
+    alloc: Global,
+    bytes: &[u8],
+    text: &[u8],
+) -> Result<bool, AllocError> {
+    for (piece, pauses) in PIECES {
+        if !is_written(task, alloc, bytes, Way::of(piece, pauses), text)? {
+            return Ok(false);
+        }
+    }
+    Ok(true)
+}
+
+/// Whether the definition says this, and the connection writes it however its bytes come.
+pub(crate) fn is_answered(
+    task: &MockTask,
+    alloc: Global,
+    bytes: &[u8],
+    text: &[u8],
+) -> Result<bool, AllocError> {
+    let defined = defined(alloc, bytes)?;
+    if defined.as_bytes() != text {
+        return Ok(false);
+    }
+    is_always_written(task, alloc, bytes, text)
+}
+
+// The same for each of the bytes and its answers.
+fn are_answered(
+    task: &MockTask,
+    alloc: Global,
+    rows: &[(&[u8], &[u8])],
+) -> Result<bool, AllocError> {
+    for (bytes, text) in rows {
+        if !is_answered(task, alloc, bytes, text)? {
+            return Ok(false);
+        }
+    }
+    Ok(true)
+}
+
+/// Whether each of the bytes has the answers beside it.
+pub(crate) fn answered<R: RandomSource + AllocGlobal>(
+    rt: &R,
+    rows: &[(&[u8], &[u8])],
+) -> Result<bool, Fail> {
+    let task = MockTask::new(rt)?;
+    Ok(are_answered(&task, rt.alloc(), rows)?)
+}
+
+// Whether each of the bytes has this answer.
+fn are_answered_alike(
+    task: &MockTask,
+    alloc: Global,
+    rows: &[&[u8]],
+    text: &[u8],
+) -> Result<bool, AllocError> {
+    for bytes in rows {
+        if !is_answered(task, alloc, bytes, text)? {
+            return Ok(false);
+        }
+    }
+    Ok(true)
+}
+
+/// Whether each of the bytes has this answer.
+pub(crate) fn answered_alike<R: RandomSource + AllocGlobal>(
+    rt: &R,
+    rows: &[&[u8]],
+    text: &[u8],
+) -> Result<bool, Fail> {
+    let task = MockTask::new(rt)?;
+    Ok(are_answered_alike(&task, rt.alloc(), rows, text)?)
+}

@@ -1,0 +1,183 @@
+//! A connection whose bytes end, or whose link fails, at any place of two requests.
+use crate::answering::{MANY, is_answered};
+use crate::serving::{OK, is_served};
+use crate::test_link::Way;
+use futures::test::MockTask;
+use service_core::How;
+use std::alloc::{AllocError, Global};
+use std::test::Fail;
+
+// The first of two requests.
+const FIRST: &[u8] = b"GET /a HTTP/1.1\r\nHost: x\r\n\r\n";
+
+// Two requests, of which the second has a body.
+const BOTH: &[u8] =
+    b"GET /a HTTP/1.1\r\nHost: x\r\n\r\nPOST /b HTTP/1.1\r\nContent-Length: 3\r\n\r\nxyz";
+
+// Their answers.
+const ANSWERS: &[u8] = b"HTTP/1.1 200 OK\r\ncontent-length: 3\r\n\r\n/a\n\
+HTTP/1.1 200 OK\r\ncontent-length: 6\r\n\r\n/b\nxyz";
+
+// The answers to the requests that are whole within so many bytes.
+fn answers_within(len: usize) -> &'static [u8] {
+    if len < FIRST.len() {
+        b""
+    } else if len < BOTH.len() {
+        OK
+    } else {
+        ANSWERS
+    }
+}
+
+// Whether each front of the bytes has the answers to the requests that are whole in it.
+fn fronts_are_answered(task: &MockTask, alloc: Global) -> Result<bool, AllocError> {
+    for end in 0..BOTH.len() + 1 {
+        if !is_answered(task, alloc, &BOTH[..end], answers_within(end))? {
+            return Ok(false);
+        }
+    }
+    Ok(true)
+}
+
+#[test]
+fn requests_cut_short_anywhere_have_the_answers_to_the_whole_ones(
+    rt: HostRuntime,
+) -> Result<(), Fail> {
+    let task = MockTask::new(&rt)?;
+    assert!(rt; fronts_are_answered(&task, rt.alloc())?);
+    Ok(())
+}
+
+// Whether it ends by a read fault and wrote this, where the read fails that begins once so many bytes were taken.
+fn reads_fail_at(
+    task: &MockTask,
+    alloc: Global,
+    row: (usize, bool, usize),
+    text: &[u8],
+) -> Result<bool, AllocError> {
+    let (piece, pauses, most_read) = row;
+    let way = Way {
+        piece,
+        pauses,
+        most_read,
+        most_written: usize::MAX,
+    };
+    is_served(task, alloc, (BOTH, way, MANY), Some(How::ReadFault), text)
+}
+
+// Whether what was taken is answered, wherever a read fails.
+fn reads_fail_anywhere(task: &MockTask, alloc: Global, pauses: bool) -> Result<bool, AllocError> {
+    for most in 0..BOTH.len() + 1 {
+        if !reads_fail_at(task, alloc, (1, pauses, most), answers_within(most))? {
+            return Ok(false);
+        }
+    }
+    Ok(true)
+}
+
+#[test]
+fn a_read_fault_anywhere_ends_it_with_what_was_taken_answered(rt: HostRuntime) -> Result<(), Fail> {
+    let task = MockTask::new(&rt)?;
+    let alloc = rt.alloc();
+    assert!(rt; reads_fail_anywhere(&task, alloc, false)?);
+    assert!(rt; reads_fail_anywhere(&task, alloc, true)?);
+    assert!(rt; reads_fail_at(&task, alloc, (7, true, 21), b"")?);
+    assert!(rt; reads_fail_at(&task, alloc, (7, true, 22), OK)?);
+    assert!(rt; reads_fail_at(&task, alloc, (4096, true, 0), b"")?);
+    assert!(rt; reads_fail_at(&task, alloc, (4096, true, 1), ANSWERS)?);
+    Ok(())
+}
+
+// Whether it ends so and wrote this, where the write fails that begins once so many bytes were written.
+fn writes_fail_at(
+    task: &MockTask,
+    alloc: Global,
+    row: (usize, bool, usize),
+    how: How,
+    text: &[u8],
+) -> Result<bool, AllocError> {
+    let (piece, pauses, most_written) = row;
+    let way = Way {
+        piece,
+        pauses,
+        most_read: usize::MAX,
+        most_written,
+    };
+    is_served(task, alloc, (BOTH, way, MANY), Some(how), text)
+}
+
+// Whether the answers are written up to where a write fails, wherever that is.
+fn writes_fail_anywhere(task: &MockTask, alloc: Global, pauses: bool) -> Result<bool, AllocError> {
+    for most in 0..ANSWERS.len() {
+        let row = (1, pauses, most);
+        if !writes_fail_at(task, alloc, row, How::WriteFault, &ANSWERS[..most])? {
+            return Ok(false);
+        }
+    }
+    Ok(true)
+}
+
+#[test]
+fn a_write_fault_anywhere_ends_it_with_a_front_of_the_answers(rt: HostRuntime) -> Result<(), Fail> {
+    let task = MockTask::new(&rt)?;
+    let alloc = rt.alloc();
+    assert!(rt; writes_fail_anywhere(&task, alloc, false)?);
+    assert!(rt; writes_fail_anywhere(&task, alloc, true)?);
+    assert!(rt; writes_fail_at(&task, alloc, (4, true, 8), How::WriteFault, b"HTTP/1.1")?);
+    assert!(rt; writes_fail_at(&task, alloc, (4, true, 6), How::WriteFault, b"HTTP/1.1")?);
+    Ok(())
+}
+
+#[test]
+fn a_link_that_takes_one_byte_a_write_gets_whole_answers(rt: HostRuntime) -> Result<(), Fail> {
+    let task = MockTask::new(&rt)?;
+    let alloc = rt.alloc();
+    let len = ANSWERS.len();
+    assert!(rt; writes_fail_at(&task, alloc, (1, false, len), How::Served, ANSWERS)?);
+    assert!(rt; writes_fail_at(&task, alloc, (1, true, len), How::Served, ANSWERS)?);
+    Ok(())
+}
+
+// Requests behind which the connection closes, with a byte behind them, and their answers.
+const CLOSING: [(&[u8], &[u8]); 2] = [
+    (
+        b"GET /a HTTP/1.1\r\nConnection: close\r\n\r\nG",
+        b"HTTP/1.1 200 OK\r\ncontent-length: 3\r\nconnection: close\r\n\r\n/a\n",
+    ),
+    (
+        b"GET\r\n\r\nG",
+        b"HTTP/1.1 400 Bad Request\r\ncontent-length: 0\r\nconnection: close\r\n\r\n",
+    ),
+];
+
+// Whether the connection of the bytes ends as served, where a read of the last byte would fail.
+fn is_closed(
+    task: &MockTask,
+    alloc: Global,
+    bytes: &[u8],
+    text: &[u8],
+) -> Result<bool, AllocError> {
+    let way = Way {
+        piece: 1,
+        pauses: false,
+        most_read: bytes.len().saturating_sub(1),
+        most_written: usize::MAX,
+    };
+    is_served(task, alloc, (bytes, way, MANY), Some(How::Served), text)
+}
+
+fn are_closed(task: &MockTask, alloc: Global) -> Result<bool, AllocError> {
+    for (bytes, text) in CLOSING {
+        if !is_closed(task, alloc, bytes, text)? {
+            return Ok(false);
+        }
+    }
+    Ok(true)
+}
+
+#[test]
+fn no_read_behind_a_closing_answer_is_tried(rt: HostRuntime) -> Result<(), Fail> {
+    let task = MockTask::new(&rt)?;
+    assert!(rt; are_closed(&task, rt.alloc())?);
+    Ok(())
+}
