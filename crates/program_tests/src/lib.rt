@@ -9,6 +9,8 @@ mod scripts;
 #[cfg(test)]
 mod shown;
 #[cfg(test)]
+mod steps;
+#[cfg(test)]
 mod streams;
 #[cfg(test)]
 mod words;

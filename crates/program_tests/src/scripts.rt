@@ -2,6 +2,7 @@
 use crate::shown::{hold, holds, not};
 use cors_answer::Cors;
 use script::{Connection, PlainText, Reading, Script, ScriptRule, build_policy, read_script};
+use server_run::ReadStep;
 use service_core::Peer;
 use std::alloc::{AllocError, Global};
 use std::test::Fail;
@@ -39,8 +40,22 @@ fn a_script_asks_for_a_listener(rt: HostRuntime) -> Result<(), Fail> {
     )
 }
 
+// Whether the steps hand over these bytes together.
+fn hand_over(reads: &[ReadStep], bytes: &[u8]) -> bool {
+    let mut rest = bytes;
+    for step in reads {
+        if let ReadStep::Give(piece) = step {
+            if !rest.starts_with(piece.as_bytes()) {
+                return false;
+            }
+            rest = &rest[piece.len()..];
+        }
+    }
+    rest.is_empty()
+}
+
 fn gives(connection: &Connection, peer: Peer, bytes: &[u8]) -> bool {
-    connection.peer == peer && connection.held.as_bytes() == bytes
+    connection.peer() == peer && hand_over(connection.reads(), bytes)
 }
 
 fn has_connection(script: &Script, peer: Peer, bytes: &[u8]) -> bool {

@@ -9,7 +9,7 @@ ghost use Rattle.http_service.specs.Requests.{IsFunction};
 ghost use Rattle.server_run.specs.Creating.{OnlyEnds};
 ghost use Rattle.server_program.specs.Factories.{connection_builder, connection_site};
 ghost use Rattle.server_program.specs.Policed.{IsPoliced};
-ghost use Rattle.server_program.specs.Serving.{default_limits, LeavesScript, ServesScript};
+ghost use Rattle.server_program.specs.Serving.{LeavesScript, ServesScript};
 
 use crate::serving::HandlerService;
 use cors_answer::{Cors, CorsFault, CorsInitError, CorsMiddleware};
@@ -30,6 +30,8 @@ pub struct ConnectionFactory {
     pub cors: Arc<Cors<ScriptRule>>,
     /// What answers the requests that the policy hands on.
     pub handler: Handler,
+    /// How many bytes of a head and of a body are read.
+    pub limits: Limits,
 }
 
 impl ConnectionFactory {
@@ -85,7 +87,7 @@ impl<L: Link> ServiceFactory<L> for ConnectionFactory {
         match self.policed() {
             Err(error) => err(error),
             Ok(policed) => {
-                match H1ServiceHandler::new(self.alloc, policed, Limits::new(32_768, 1_048_576)) {
+                match H1ServiceHandler::new(self.alloc, policed, self.limits) {
                     Ok(handler) => ok(handler),
                     Err(_) => err(CorsInitError::Memory),
                 }

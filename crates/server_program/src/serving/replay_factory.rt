@@ -8,6 +8,7 @@ ghost use Rattle.server_program.specs.Serving.{LeavesScript, ServesScript};
 
 use crate::serving::ConnectionFactory;
 use cors_answer::Cors;
+use http1_plain::Limits;
 use script::{Handler, ScriptRule};
 use server_run::ServerServiceFactory;
 use service_core::Link;
@@ -19,21 +20,25 @@ use std::sync::Arc;
 pub struct ReplayFactory {
     pub(crate) cors: Arc<Cors<ScriptRule>>,
     pub(crate) handler: Handler,
+    pub(crate) limits: Limits,
 }
 
 impl ReplayFactory {
-    /// A factory of the handler under the policy that the builder has made.
+    /// A factory of the handler under the policy that the builder has made, and by the limits.
     pub fn new(
         alloc: Global,
         cors: Cors<ScriptRule>,
         handler: Handler,
+        limits: Limits,
     ) -> Result<ReplayFactory, AllocError>
         ensures cors { IfOk result (λ factory. replay_builder factory ≡ cors) }
         ensures handler { IfOk result (λ factory. (replay_site factory).handler ≡ handler) }
+        ensures limits { IfOk result (λ factory. (replay_site factory).limits ≡ limits) }
     {
         Ok(ReplayFactory {
             cors: Arc::new(alloc, cors)?,
             handler,
+            limits,
         })
     }
 }
@@ -56,6 +61,7 @@ impl<L: Link> ServerServiceFactory<L> for ReplayFactory {
             alloc,
             cors: self.cors.clone()?,
             handler: self.handler,
+            limits: self.limits,
         })
     }
 
