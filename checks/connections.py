@@ -3,13 +3,12 @@
 is written with what the steps there say. A text comes whole, byte by byte, and (below 500 bytes) in two pieces, cut at each
 place, with a wait between them. `rt ci` has to have built the program, or it is built first, which takes some minutes."""
 
-import concurrent.futures
 import os
 import subprocess
 import sys
 
 sys.dont_write_bytecode = True
-from framing_table import bytes_of, rows
+from framing_table import bytes_of, compare
 
 top = os.path.dirname(os.path.dirname(os.path.abspath(__file__)))
 launcher = os.path.join(top, "dongurapi")
@@ -86,12 +85,7 @@ def faults_of(row):
 def main():
     if subprocess.run([launcher, "build"], check=False).returncode:
         sys.exit(1)
-    texts = rows()
-    with concurrent.futures.ThreadPoolExecutor(4) as pool:
-        found = list(pool.map(faults_of, texts))
-    faults = [fault for some, _ in found for fault in some]
-    print("\n".join([*faults, f"{len(texts)} texts, {sum(count for _, count in found)} runs, {len(faults)} otherwise than written"]))
-    sys.exit(bool(faults))
+    compare(faults_of)
 
 
 main()

@@ -3,13 +3,12 @@
 compares the steps that it prints with those written there by hand. `rt ci` has to have built the program, or it is built
 first, which takes some minutes."""
 
-import concurrent.futures
 import os
 import subprocess
 import sys
 
 sys.dont_write_bytecode = True
-from framing_table import USUAL, rows
+from framing_table import USUAL, compare
 
 top = os.path.dirname(os.path.dirname(os.path.abspath(__file__)))
 crate = os.path.join(top, "crates", "example_reader")
@@ -37,12 +36,7 @@ def main():
     built = subprocess.run(["rt", "run", "--", *USUAL, "1"], cwd=crate, stdin=subprocess.DEVNULL, capture_output=True, check=False)
     if built.returncode:
         sys.exit(built.stderr.decode()[-2000:])
-    texts = rows()
-    with concurrent.futures.ThreadPoolExecutor(4) as pool:
-        found = list(pool.map(faults_of, texts))
-    faults = [fault for some, _ in found for fault in some]
-    print("\n".join([*faults, f"{len(texts)} texts, {sum(count for _, count in found)} runs, {len(faults)} otherwise than written"]))
-    sys.exit(bool(faults))
+    compare(faults_of)
 
 
 main()

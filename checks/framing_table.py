@@ -1,7 +1,9 @@
 """The texts of framing.txt, as the checks of this folder read them."""
 
+import concurrent.futures
 import os
 import re
+import sys
 
 TABLE = os.path.join(os.path.dirname(os.path.abspath(__file__)), "framing.txt")
 USUAL = ("32768", "1048576")
@@ -32,3 +34,14 @@ def rows():
         elif row:
             limits, row = USUAL, None
     return found
+
+
+def compare(faults_of):
+    """Runs each text by a function that tells what is otherwise than written, and how many runs there were. Prints both of all
+    texts, and ends the check."""
+    texts = rows()
+    with concurrent.futures.ThreadPoolExecutor(4) as pool:
+        found = list(pool.map(faults_of, texts))
+    faults = [fault for some, _ in found for fault in some]
+    print("\n".join([*faults, f"{len(texts)} texts, {sum(count for _, count in found)} runs, {len(faults)} otherwise than written"]))
+    sys.exit(bool(faults))
