@@ -38,17 +38,24 @@ fn answer(alloc: Global, head: &Head, content: &[u8], closing: bool) -> Result<O
     )
 }
 
-// The answer behind these bytes that refuses a request.
-fn on_malformed(alloc: Global, before: &[u8], status: Status) -> Result<Octets, AllocError>
-    ensures { IfOk result (λ written. written ≡ before.now ++ refusal (number_of status)) }
+// The bytes with an answer behind them.
+fn with_answer(alloc: Global, before: &[u8], answer: &[u8]) -> Result<Octets, AllocError>
+    ensures { IfOk result (λ written. written ≡ before.now ++ answer.now) }
 {
     let mut written = Octets::of(alloc, before)?;
-    let answer = refusal(alloc, status)?;
-    written.push_all(answer.as_bytes())?;
+    written.push_all(answer)?;
     Ok(written)
 }
 
-// The bytes with an answer behind them.
+// The bytes with the answer behind them that refuses a request.
+fn on_malformed(alloc: Global, before: &[u8], status: Status) -> Result<Octets, AllocError>
+    ensures { IfOk result (λ written. written ≡ before.now ++ refusal (number_of status)) }
+{
+    let answer = refusal(alloc, status)?;
+    with_answer(alloc, before, answer.as_bytes())
+}
+
+// The bytes with the answer behind them to a request that is whole.
 fn on_whole(
     alloc: Global,
     head: &Head,
@@ -59,10 +66,8 @@ fn on_whole(
     ensures { IfOk result (λ written. written
         ≡ before.now ++ wire head.now (echoed head.now.target content.now) closing) }
 {
-    let mut written = Octets::of(alloc, before)?;
     let answer = answer(alloc, head, content, closing)?;
-    written.push_all(answer.as_bytes())?;
-    Ok(written)
+    with_answer(alloc, before, answer.as_bytes())
 }
 
 // The bytes behind the request, unless the connection closes.

@@ -65,10 +65,31 @@ fn reads_fail_at(
     is_served(task, alloc, (BOTH, way, MANY), Some(How::ReadFault), text)
 }
 
+// How many bytes are taken in such pieces where reads fail once so many were.
+fn taken_by(piece: usize, most_read: usize) -> usize {
+    most_read.div_ceil(piece.max(1)).saturating_mul(piece)
+}
+
 // Whether what was taken is answered, wherever a read fails.
-fn reads_fail_anywhere(task: &MockTask, alloc: Global, pauses: bool) -> Result<bool, AllocError> {
+fn reads_fail_anywhere(
+    task: &MockTask,
+    alloc: Global,
+    piece: usize,
+    pauses: bool,
+) -> Result<bool, AllocError> {
     for most in 0..BOTH.len() + 1 {
-        if !reads_fail_at(task, alloc, (1, pauses, most), answers_within(most))? {
+        let text = answers_within(taken_by(piece, most));
+        if !reads_fail_at(task, alloc, (piece, pauses, most), text)? {
+            return Ok(false);
+        }
+    }
+    Ok(true)
+}
+
+// The same in smaller and larger pieces.
+fn reads_fail(task: &MockTask, alloc: Global) -> Result<bool, AllocError> {
+    for (piece, pauses) in [(1, false), (1, true), (7, true), (4096, false)] {
+        if !reads_fail_anywhere(task, alloc, piece, pauses)? {
             return Ok(false);
         }
     }
@@ -78,13 +99,7 @@ fn reads_fail_anywhere(task: &MockTask, alloc: Global, pauses: bool) -> Result<b
 #[test]
 fn a_read_fault_anywhere_ends_it_with_what_was_taken_answered(rt: HostRuntime) -> Result<(), Fail> {
     let task = MockTask::new(&rt)?;
-    let alloc = rt.alloc();
-    assert!(rt; reads_fail_anywhere(&task, alloc, false)?);
-    assert!(rt; reads_fail_anywhere(&task, alloc, true)?);
-    assert!(rt; reads_fail_at(&task, alloc, (7, true, 21), b"")?);
-    assert!(rt; reads_fail_at(&task, alloc, (7, true, 22), OK)?);
-    assert!(rt; reads_fail_at(&task, alloc, (4096, true, 0), b"")?);
-    assert!(rt; reads_fail_at(&task, alloc, (4096, true, 1), ANSWERS)?);
+    assert!(rt; reads_fail(&task, rt.alloc())?);
     Ok(())
 }
 
@@ -117,24 +132,38 @@ fn writes_fail_anywhere(task: &MockTask, alloc: Global, pauses: bool) -> Result<
     Ok(true)
 }
 
+// The same, and where a write of four bytes fails.
+fn writes_fail(task: &MockTask, alloc: Global) -> Result<bool, AllocError> {
+    for pauses in [false, true] {
+        if !writes_fail_anywhere(task, alloc, pauses)? {
+            return Ok(false);
+        }
+    }
+    writes_fail_at(task, alloc, (4, true, 6), How::WriteFault, b"HTTP/1.1")
+}
+
 #[test]
 fn a_write_fault_anywhere_ends_it_with_a_front_of_the_answers(rt: HostRuntime) -> Result<(), Fail> {
     let task = MockTask::new(&rt)?;
-    let alloc = rt.alloc();
-    assert!(rt; writes_fail_anywhere(&task, alloc, false)?);
-    assert!(rt; writes_fail_anywhere(&task, alloc, true)?);
-    assert!(rt; writes_fail_at(&task, alloc, (4, true, 8), How::WriteFault, b"HTTP/1.1")?);
-    assert!(rt; writes_fail_at(&task, alloc, (4, true, 6), How::WriteFault, b"HTTP/1.1")?);
+    assert!(rt; writes_fail(&task, rt.alloc())?);
     Ok(())
+}
+
+// Whether all is written, byte by byte, where a further write would fail.
+fn all_is_written(task: &MockTask, alloc: Global) -> Result<bool, AllocError> {
+    for pauses in [false, true] {
+        let row = (1, pauses, ANSWERS.len());
+        if !writes_fail_at(task, alloc, row, How::Served, ANSWERS)? {
+            return Ok(false);
+        }
+    }
+    Ok(true)
 }
 
 #[test]
 fn a_link_that_takes_one_byte_a_write_gets_whole_answers(rt: HostRuntime) -> Result<(), Fail> {
     let task = MockTask::new(&rt)?;
-    let alloc = rt.alloc();
-    let len = ANSWERS.len();
-    assert!(rt; writes_fail_at(&task, alloc, (1, false, len), How::Served, ANSWERS)?);
-    assert!(rt; writes_fail_at(&task, alloc, (1, true, len), How::Served, ANSWERS)?);
+    assert!(rt; all_is_written(&task, rt.alloc())?);
     Ok(())
 }
 
