@@ -274,3 +274,46 @@ fn failing_writes() -> [Row<'static>; 8] {
 fn each_write_that_fails_is_told(rt: HostRuntime) -> Result<(), Fail> {
     holds(&rt, all_end(&rt, &failing_writes()))
 }
+
+// The run of a script, and the report that it writes.
+fn of_script<'a>(script: &'a [u8], report: &'a str) -> Row<'a> {
+    Row {
+        words: &["replay"],
+        script,
+        faults: none(),
+        status: 0,
+        got: Some(report),
+    }
+}
+
+const ECHO: &[u8] =
+    b"no-vary\nhandler echo\nlistener\nconn local\ngive POST /a HTTP/1.1\\r\\ncontent-length: 2\\r\\n\\r\\nhi";
+
+// The same request byte by byte, with reads and writes that are pending, and the answer a few bytes at a time.
+const SLOW_ECHO: &[u8] =
+    b"cut 1\nno-vary\nhandler echo\nlistener\nconn local\nwait\ngive POST /a HTTP/1.1\\r\\ncontent-length: 2\\r\\n\\r\\n\nwait\ngive hi\nwrite-wait\ntake 3\nwrite-wait\ntake 1";
+
+const ECHOED: &str =
+    "0.0 served \"HTTP/1.1 200 OK\\r\\ncontent-length: 10\\r\\n\\r\\nPOST /a\\nhi\"\nlistener 0 ended\nend drained\n";
+
+#[test]
+fn a_request_is_echoed_however_it_comes(rt: HostRuntime) -> Result<(), Fail> {
+    hold(
+        &rt,
+        &[
+            ends(&rt, of_script(ECHO, ECHOED)),
+            ends(&rt, of_script(SLOW_ECHO, ECHOED)),
+        ],
+    )
+}
+
+const NOT_FOUND: &[u8] =
+    b"handler status 404\nno-vary\nlistener\nconn local\ngive GET / HTTP/1.1\\r\\n\\r\\n";
+
+const NOT_FOUND_TOLD: &str =
+    "0.0 served \"HTTP/1.1 404 Not Found\\r\\ncontent-length: 0\\r\\n\\r\\n\"\nlistener 0 ended\nend drained\n";
+
+#[test]
+fn a_status_is_answered_alone(rt: HostRuntime) -> Result<(), Fail> {
+    holds(&rt, ends(&rt, of_script(NOT_FOUND, NOT_FOUND_TOLD)))
+}

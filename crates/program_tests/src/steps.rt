@@ -180,14 +180,13 @@ fn are_steps(steps: &[ReadStep], wanted: &[Option<&[u8]>]) -> bool {
     steps.len() == wanted.len()
 }
 
-const STEPS: &[u8] =
-    b"cut 2\nlistener\nconn local\ngive abc\nwait\ntake 3\ngive d\nwrite-wait";
+const STEPS: &[u8] = b"cut 2\nlistener\nconn local\ngive abc\nwait\ntake 3\ngive d\nwrite-wait";
 
 fn goes_by(connection: &Connection) -> bool {
     are_steps(
         connection.reads(),
         &[Some(b"ab"), Some(b"c"), None, Some(b"d")],
-    ) && connection.writes() == &[WriteStep::Take(3), WriteStep::NotYet]
+    ) && connection.writes() == [WriteStep::Take(3), WriteStep::NotYet].as_slice()
 }
 
 fn has_steps(reading: &Reading) -> bool {
