@@ -134,9 +134,16 @@ fn is_got(got: &[u8], wanted: Option<&str>) -> bool {
     }
 }
 
+// Whether the text, or a report in it, tells that memory ran out.
+fn tells_memory(got: &[u8]) -> bool {
+    got.starts_with(b"out of mem".as_slice())
+        || got.starts_with(b"0.0 memory ".as_slice())
+        || got.ends_with(b"end memory\n".as_slice())
+}
+
 // Whether a run with this status ends as told, where it had enough memory.
 fn is_end(row: Row, status: u8, got: &[u8]) -> Result<bool, AllocError> {
-    if status == 7 || got.starts_with(b"out of mem".as_slice()) {
+    if status == 7 || tells_memory(got) {
         return Err(AllocError);
     }
     Ok(status == row.status && is_got(got, row.got))
