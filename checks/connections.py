@@ -1,7 +1,7 @@
 #!/usr/bin/env python3
 """Serves each text of framing.txt as the bytes of a connection, under the handler that echoes its request, and compares what
-is written with what the steps there say. A text comes whole, byte by byte, and (below 500 bytes) in two pieces, cut at each
-place, with a wait between them. `rt ci` has to have built the program, or it is built first, which takes some minutes."""
+is written with what the steps there say. A text comes whole, byte by byte, and in two pieces, cut at each place, with a
+wait between them. `rt ci` has to have built the program, or it is built first, which takes some minutes."""
 
 import os
 import subprocess
@@ -65,7 +65,7 @@ def scripts_of(limits, text):
     """In which pieces the text comes, and a script for each."""
     yield "whole", script_of(limits, [text])
     yield "byte by byte", script_of(limits, [text], "cut 1")
-    for place in range(1, len(text) if len(text) < 500 else 0):
+    for place in range(1, len(text)):
         yield f"cut at {place}", script_of(limits, [text[:place], text[place:]])
 
 

@@ -1,6 +1,6 @@
 #!/usr/bin/env python3
-"""Gives each text of framing.txt, whole and in pieces of 1 to 16 bytes, to the proved program of crates/example_reader, and
-compares the steps that it prints with those written there by hand. `rt ci` has to have built the program, or it is built
+"""Gives each text of framing.txt, whole and in pieces of 1 to 16 and of 64 bytes, to the proved program of crates/example_reader,
+and compares the steps that it prints with those written there by hand. `rt ci` has to have built the program, or it is built
 first, which takes some minutes."""
 
 import os
@@ -17,7 +17,7 @@ program = os.path.join(crate, "out", "example_reader")
 
 def sizes_of(text):
     """In pieces of how many bytes it is given."""
-    return sorted({max(len(text), 1), *(range(1, 17) if len(text) < 500 else (1, 7, 64))})
+    return sorted({max(len(text), 1), *range(1, 17), 64})
 
 
 def faults_of(row):
