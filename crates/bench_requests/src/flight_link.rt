@@ -9,7 +9,7 @@ use service_core::{Link, LinkFault, Octets, Peer};
 /// is written is counted, and not kept.
 #[derive(Drop)]
 pub struct FlightLink {
-    front: &'static [u8],
+    front: Octets,
     flight: Octets,
     // How many bytes of the flight were read, how many flights are still to come, and how many bytes were read in all.
     place: usize,
@@ -21,7 +21,7 @@ pub struct FlightLink {
 
 impl FlightLink {
     /// Gives the front, and these bytes so many times.
-    pub fn new(front: &'static [u8], flight: Octets, times: u64) -> FlightLink {
+    pub fn new(front: Octets, flight: Octets, times: u64) -> FlightLink {
         FlightLink {
             front,
             place: flight.len(),
@@ -62,10 +62,10 @@ impl Link for FlightLink {
         _cx: &mut Context<'_>,
         buf: &mut [u8],
     ) -> Poll<Result<usize, LinkFault>> {
-        if !self.front.is_empty() {
+        if self.front.len() > 0 {
             let count = self.front.len().min(buf.len());
-            buf[..count].copy_from_slice(&self.front[..count]);
-            self.front = &self.front[count..];
+            buf[..count].copy_from_slice(&self.front.as_bytes()[..count]);
+            self.front.drop_front(count);
             self.taken = self.taken.saturating_add(count as u64);
             return Poll::Ready(Ok(count));
         }

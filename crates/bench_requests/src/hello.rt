@@ -1,4 +1,4 @@
-//! The service that stands under the policy.
+//! The handler that stands under the policy.
 ghost use Rattle.std.specs.Prelude.{⊤, None};
 ghost use Rattle.service_core.specs.Meaning.{GivesOnly};
 
@@ -6,11 +6,11 @@ use futures::Future;
 use futures::task::{Context, Poll};
 use http_header::CONTENT_TYPE;
 use http1_plain::{ErrorResponse, FieldValue, Request, Response};
-use service_core::{Ready, Service, err, ok};
+use service_core::{Ready, Service, ServiceFactory, err, ok};
 use std::alloc::{AllocError, Global};
 
-/// It answers each request with `Hello world!` as plain text.
-#[derive(Drop)]
+/// It answers each request with `Hello world!` as plain text. It is the factory of such handlers too.
+#[derive(Clone, Copy)]
 pub struct Hello {
     /// Where its answers take memory.
     pub alloc: Global,
@@ -66,5 +66,35 @@ impl Service<Request> for Hello {
             Ok(response) => ok(response),
             Err(fault) => err(fault),
         }
+    }
+}
+
+impl ServiceFactory<Request> for Hello {
+    type Response = Response;
+
+    type Error = HelloFault;
+
+    type Config = ();
+
+    type Service = Hello;
+
+    type InitError = AllocError;
+
+    type Future = Ready<Result<Hello, AllocError>>;
+
+    ghost may = { λ _ _ _ _. ⊤ };
+
+    ghost may_ready = { λ _ _ _. ⊤ };
+
+    ghost may_begin = { λ _ _ _ f. GivesOnly ⟦<Ready<Result<Response, HelloFault>> as Future>⟧ f (λ _. ⊤) };
+
+    ghost may_init = { λ _ _ _. ⊤ };
+
+    ghost may_make = { λ _ _. ⊤ };
+
+    ghost begun_gives = { λ _ _ _ _ h. h };
+
+    fn new_service(&self, _cfg: ()) -> Ready<Result<Hello, AllocError>> {
+        ok(*self)
     }
 }

@@ -1,52 +1,24 @@
 //! A connection that is served under a policy.
+ghost use Rattle.std.specs.Prelude.{IfOk};
+
 use crate::failure::Failure;
 use crate::flight_link::FlightLink;
 use crate::hello::Hello;
 use crate::size::Size;
-use cors_answer::{Cors, CorsFault, CorsInitError, CorsMiddleware};
+use cors_answer::{Cors, CorsInitError};
 use cors_policy::NoRule;
 use futures::executor::block_on_queue;
 use futures::task::{Doorbell, Queue};
-use http_service::H1ServiceHandler;
-use http1_plain::Limits;
-use service_core::{Ended, How, Octets, Service, Transform};
+use http_flow::{HttpInitError, Never};
+use http_service::HttpService;
+use http1_plain::Request;
+use service_core::{ApplyTransform, Ended, How, Octets, Service, ServiceFactory, apply};
 use std::alloc::{AllocError, AllocGlobal, Global};
 use std::random::RandomSource;
 use std::sync::Wait;
 
-type Kept = CorsMiddleware<Hello, NoRule>;
-
-// The service under the policy.
-fn service_under(alloc: Global, cors: &Cors<NoRule>) -> Result<Kept, Failure> {
-    match cors.new_transform(Hello { alloc }).into_inner() {
-        Ok(service) => Ok(service),
-        Err(CorsInitError::Memory) => Err(Failure::Memory),
-        Err(CorsInitError::Config(_)) => Err(Failure::Refused),
-    }
-}
-
-// The service under the policy that allows everything.
-fn service(alloc: Global) -> Result<Kept, Failure> {
-    match Cors::permissive(alloc) {
-        Ok(cors) => {
-            let service = service_under(alloc, &cors);
-            drop(cors);
-            service
-        }
-        Err(_) => Err(Failure::Memory),
-    }
-}
-
-// Serves connections by it.
-fn handler(alloc: Global) -> Result<H1ServiceHandler<Kept>, Failure> {
-    match service(alloc) {
-        Ok(service) => match H1ServiceHandler::new(alloc, service, Limits::default()) {
-            Ok(handler) => Ok(handler),
-            Err(_) => Err(Failure::Memory),
-        },
-        Err(failure) => Err(failure),
-    }
-}
+/// Why no service of connections was made.
+type Refused = HttpInitError<CorsInitError, Never, Never>;
 
 // The link of so many of the kind at once, so many times.
 fn link(alloc: Global, size: Size) -> Result<FlightLink, AllocError> {
@@ -54,11 +26,12 @@ fn link(alloc: Global, size: Size) -> Result<FlightLink, AllocError> {
     for _ in 0..size.flight {
         flight.push_all(size.kind.text())?;
     }
-    Ok(FlightLink::new(size.kind.front(), flight, size.times))
+    let front = Octets::of(alloc, size.kind.front())?;
+    Ok(FlightLink::new(front, flight, size.times))
 }
 
 // How many bytes were written on a connection that was served to its end.
-fn written_of(ended: &Result<Ended<FlightLink>, CorsFault>) -> Result<u64, Failure> {
+fn written_of<E>(ended: &Result<Ended<FlightLink>, E>) -> Result<u64, Failure> {
     match ended {
         Ok(
             Ended {
@@ -70,48 +43,86 @@ fn written_of(ended: &Result<Ended<FlightLink>, CorsFault>) -> Result<u64, Failu
     }
 }
 
-fn written_on<R: Wait>(
+fn failure_of(refused: &Refused) -> Failure {
+    match refused {
+        HttpInitError::Service(CorsInitError::Config(_)) => Failure::Refused,
+        _ => Failure::Memory,
+    }
+}
+
+// Serves the link.
+fn written_on<R: Wait, S>(
     rt: &R,
     queue: &Queue,
-    handler: &H1ServiceHandler<Kept>,
+    service: &S,
     link: FlightLink,
-) -> Result<u64, Failure> {
-    match block_on_queue(rt, queue, handler.call(link)) {
-        Ok(ended) => {
-            let written = written_of(&ended);
-            drop(ended);
-            written
-        }
+) -> Result<u64, Failure>
+where
+    S: Service<FlightLink, Response = Ended<FlightLink>, Error: Drop>,
+    requires { S.can_call service.now }
+{
+    match block_on_queue(rt, queue, service.call(link)) {
+        Ok(ended) => written_of(&ended),
         Err(_) => Err(Failure::Memory),
     }
 }
 
-// The same of a link that was made.
-fn written_by<R: Wait>(
+// The same by a service that was made.
+fn written_by<R: Wait, S>(
     rt: &R,
     queue: &Queue,
-    handler: &H1ServiceHandler<Kept>,
-    link: Result<FlightLink, AllocError>,
-) -> Result<u64, Failure> {
-    match link {
-        Ok(link) => written_on(rt, queue, handler, link),
+    made: &Result<S, Refused>,
+    link: FlightLink,
+) -> Result<u64, Failure>
+where
+    S: Service<FlightLink, Response = Ended<FlightLink>, Error: Drop>,
+    requires { IfOk made.now (λ service. S.can_call service) }
+{
+    match made {
+        Ok(service) => written_on(rt, queue, service, link),
+        Err(refused) => Err(failure_of(refused)),
+    }
+}
+
+// The same by a service of the factory.
+fn written_through<R: Wait, F>(
+    rt: &R,
+    queue: &Queue,
+    factory: &F,
+    link: FlightLink,
+) -> Result<u64, Failure>
+where
+    F: ServiceFactory<
+        FlightLink,
+        Config = (),
+        Response = Ended<FlightLink>,
+        Error: Drop,
+        InitError = Refused,
+        Service: Drop,
+    >,
+    requires { F.can_make factory.now }
+{
+    match block_on_queue(rt, queue, factory.new_service(())) {
+        Ok(made) => written_by(rt, queue, &made, link),
         Err(_) => Err(Failure::Memory),
     }
 }
 
-// The same of a handler that is made.
-fn written_through<R>(rt: &R, queue: &Queue, size: Size) -> Result<u64, Failure>
-where
-    R: Wait + AllocGlobal,
-{
-    match handler(rt.alloc()) {
-        Ok(handler) => {
-            let written = written_by(rt, queue, &handler, link(rt.alloc(), size));
-            drop(handler);
-            written
-        }
-        Err(failure) => Err(failure),
-    }
+// The handler under the policy that allows everything.
+fn policed(alloc: Global) -> Result<ApplyTransform<Cors<NoRule>, Hello, Request>, AllocError> {
+    let cors = Cors::permissive(alloc)?;
+    apply(alloc, cors, Hello { alloc })
+}
+
+// How many bytes are written in answer to the requests, by the queue's task.
+fn written_within<R: Wait>(
+    rt: &R,
+    queue: &Queue,
+    alloc: Global,
+    size: Size,
+) -> Result<u64, Failure> {
+    let connections = HttpService::build(alloc).finish(policed(alloc)?).tcp();
+    written_through(rt, queue, &connections, link(alloc, size)?)
 }
 
 /// How many bytes are written in answer to the requests.
@@ -120,11 +131,7 @@ where
     R: Wait + RandomSource + AllocGlobal,
 {
     match Queue::new(rt, Doorbell::parking()) {
-        Ok(queue) => {
-            let written = written_through(rt, &queue, size);
-            drop(queue);
-            written
-        }
+        Ok(queue) => written_within(rt, &queue, rt.alloc(), size),
         Err(_) => Err(Failure::Memory),
     }
 }

@@ -1,12 +1,16 @@
--- A service of connections never errs.
-use Rattle.std.proofs.Common.{ℕ, List, Result, Ok, Err}
-use Rattle.http1_grammar.specs.Answers.{Answers}
+-- A service of connections never errs, and keeps its link.
+use Rattle.std.proofs.Common.{◌≡◌, Result, Ok, Err, None, Option}
 use Rattle.service_core.specs.declared.ended.Ended.{Ended}
 use Rattle.service_core.specs.declared.link.Link.{Ghosts as LinkOf}
-use Rattle.http_service.specs.Ending.{Ends, MayEnd}
+use Rattle.service_core.specs.declared.peer.Peer.{Peer}
+use Rattle.http_flow.specs.Creating.{OfPart}
+use Rattle.http_service.specs.Serving.{Serves, Serving}
 use Rattle.server_run.specs.Creating.{OnlyEnds}
 
-pub only_ends : {L H E : Type 0} (g : LinkOf L) (IsHandler : H → Type 0) (served : H → List ℕ → Answers) (link : L) (r : Result (Ended L) E)
-    → MayEnd g IsHandler served link r → OnlyEnds (λ ended. Ends g link ended.link IsHandler served ended.how) r
-only_ends g IsHandler served link (Ok ended) ends = ends
-only_ends g IsHandler served link (Err e) ends = ends
+pub keeps : {L E XE A : Type 0} (g : LinkOf L) (s : Serving L E XE) (peer : Peer) (link : L) (r : Result (Ended L) A)
+    → Serves g s peer link r → OnlyEnds (λ ended. g.identity ended.link ≡ g.identity link) r
+keeps g s peer link (Ok ended) given = given.ends.same
+keeps g s peer link (Err e) given = given
+
+pub of_none : {A : Type 0} (part : Option A) (P : A → Type 0) → part ≡ None → OfPart part P
+of_none part P none = rw none tt

@@ -1,4 +1,4 @@
-ghost use Rattle.std.specs.Prelude.{◌≡◌, Ok, IfOk};
+ghost use Rattle.std.specs.Prelude.{◌≡◌, ⊤, Ok, IfOk};
 ghost use Rattle.futures.specs.declared.task.Poll.TheVariants.{Ready as PollReady};
 ghost use Rattle.service_core.specs.Meaning.{GivesOnly};
 ghost use Rattle.example_serve.specs.Greeting.{greeting, Greets};
@@ -7,7 +7,7 @@ use crate::no_greeting::NoGreeting;
 use futures::Future;
 use futures::task::{Context, Poll};
 use http1_plain::{Request, Response};
-use service_core::{Octets, Ready, Service, err, ok};
+use service_core::{Octets, Ready, Service, ServiceFactory, err, ok};
 use std::alloc::{AllocError, Global};
 
 /// The handler: it greets each request by its target.
@@ -53,5 +53,36 @@ impl Service<Request> for Greeter {
             Ok(response) => ok(response),
             Err(_) => err(NoGreeting),
         }
+    }
+}
+
+/// It makes itself.
+impl ServiceFactory<Request> for Greeter {
+    type Response = Response;
+
+    type Error = NoGreeting;
+
+    type Config = ();
+
+    type Service = Greeter;
+
+    type InitError = AllocError;
+
+    type Future = Ready<Result<Greeter, AllocError>>;
+
+    ghost may = { λ _ _ request result. Greets request result };
+
+    ghost may_ready = { λ _ _ answer. answer ≡ PollReady (Ok tt) };
+
+    ghost may_begin = { λ _ _ request future. GivesOnly ⟦<Ready<Result<Response, NoGreeting>> as Future>⟧ future (Greets request) };
+
+    ghost may_init = { λ _ _ _. ⊥ };
+
+    ghost may_make = { λ _ _. ⊤ };
+
+    ghost begun_gives = { λ _ _ _ _ begun. begun };
+
+    fn new_service(&self, _cfg: ()) -> Ready<Result<Greeter, AllocError>> {
+        ok(*self)
     }
 }

@@ -1,79 +1,65 @@
-ghost use Rattle.std.specs.Prelude.{◌≡◌, ⊤, Ok};
-ghost use Rattle.futures.specs.declared.task.Poll.TheVariants.{Ready as PollReady};
-ghost use Rattle.service_core.specs.declared.ended.How.TheVariants.{Memory};
-ghost use Rattle.service_core.specs.Meaning.{GivesOnly};
-ghost use Rattle.http_service.specs.Connecting.{MayServe};
+ghost use Rattle.std.specs.Prelude.{◌≡◌, ⊤, None};
 
 use crate::greeter::Greeter;
-use crate::no_greeting::NoGreeting;
-use futures::Future;
-use http_service::{H1ServiceHandler, H1ServiceHandlerResponse};
-use http1_plain::{ErrorResponse, Limits, Request};
+use cors_answer::Cors;
+use cors_policy::NoRule;
+use http_service::{ExpectHandler, HttpService, HttpTcpFactory, UpgradeHandler};
+use http1_plain::{Limits, Request};
 use server_run::ServerServiceFactory;
-use service_core::{Ended, Link, Ready, Service, ServiceFactory, err, ok};
+use service_core::{ApplyTransform, Link, apply};
 use std::alloc::{AllocError, Global};
+use std::sync::Arc;
+use std::time::Duration;
 
-/// Makes services of connections that the greeter answers. It is the factory of each token by itself.
-#[derive(Clone, Copy)]
+// The greeter under a policy.
+type Policed = ApplyTransform<Arc<Cors<NoRule>>, Greeter, Request>;
+
+// Connections that it answers.
+type Connections<L> = HttpTcpFactory<L, Policed, ExpectHandler, UpgradeHandler>;
+
+/// Makes what serves a listener's connections: the greeter, under a policy on requests from other origins.
+#[derive(Drop)]
 pub struct GreeterFactory {
     /// What answers each request.
     pub greeter: Greeter,
-    /// How many bytes of a head and of a body a connection reads.
-    pub limits: Limits,
+    /// Which origins may read its answers.
+    pub cors: Arc<Cors<NoRule>>,
 }
 
-impl<L: Link> ServiceFactory<L> for GreeterFactory {
-    type Response = Ended<L>;
-
-    type Error = NoGreeting;
-
-    type Config = ();
-
-    type Service = H1ServiceHandler<Greeter>;
-
-    type InitError = AllocError;
-
-    type Future = Ready<Result<H1ServiceHandler<Greeter>, AllocError>>;
-
-    ghost may = { λ f _ link r. MayServe L.Link ⟦<Greeter as Service<Request>>⟧ ⟦<NoGreeting as ErrorResponse>⟧.response f.greeter f.limits link r };
-
-    ghost may_ready = { λ _ _ answer. answer ≡ PollReady (Ok tt) };
-
-    ghost may_begin = { λ f _ link future. GivesOnly ⟦<H1ServiceHandlerResponse<L, Greeter> as Future>⟧ future
-        (MayServe L.Link ⟦<Greeter as Service<Request>>⟧ ⟦<NoGreeting as ErrorResponse>⟧.response f.greeter f.limits link) };
-
-    ghost may_init = { λ _ _ _. ⊤ };
-
-    ghost may_make = { λ _ _. ⊤ };
-
-    ghost begun_gives = { λ _ _ _ _ begun. begun };
-
-    fn new_service(&self, _cfg: ()) -> Ready<Result<H1ServiceHandler<Greeter>, AllocError>> {
-        match H1ServiceHandler::new(self.greeter.alloc, self.greeter, self.limits) {
-            Ok(service) => ok(service),
-            Err(error) => err(error),
-        }
+impl GreeterFactory {
+    // The factory of connections over that of the policed greeter.
+    fn connections<L: Link>(&self, alloc: Global, policed: Policed) -> Connections<L>
+        ensures { result.upgrade ≡ None }
+    {
+        HttpService::build(alloc)
+            .keep_alive(Duration::from_secs(5))
+            .limits(Limits::new(8_192, 65_536))
+            .finish(policed)
+            .tcp()
     }
 }
 
 impl<L: Link> ServerServiceFactory<L> for GreeterFactory {
-    type Factory = GreeterFactory;
+    type Factory = Connections<L>;
 
-    ghost may_serve = { λ f _ link ended. ⟦<GreeterFactory as ServiceFactory<L>>⟧.may f tt link (Ok ended) };
+    // A link comes back as the one that was given. Nothing more is promised here.
+    ghost may_serve = { λ _ _ link ended. L.identity ended.link ≡ L.identity link };
 
-    ghost may_leave = { λ f _ link back. ⟦<GreeterFactory as ServiceFactory<L>>⟧.may f tt link (Ok (record { link = back; how = Memory })) };
+    ghost may_leave = { λ _ _ link back. L.identity back ≡ L.identity link };
 
-    ghost may_ready = { λ _ _ answer. answer ≡ PollReady (Ok tt) };
+    ghost may_ready = { λ _ _ _. ⊤ };
 
     ghost may_init = { λ _ _ _. ⊤ };
 
     ghost may_make = { λ _ _. ⊤ };
 
-    fn create(&self, _alloc: Global, _token: usize) -> Result<GreeterFactory, AllocError> {
-        Ok(*self)
+    fn create(&self, alloc: Global, _token: usize) -> Result<Connections<L>, AllocError> {
+        let cors = Arc::try_clone(&self.cors)?;
+        let policed = apply(alloc, cors, self.greeter)?;
+        Ok(self.connections(alloc, policed))
     }
 
-    ghost same_served = { λ _ _ _ _ serves. serves.same };
+    ghost same_served = { λ _ _ _ _ same. same };
 
-    ghost same_left = { λ _ _ _ _ leaves. leaves.same };
+    ghost same_left = { λ _ _ _ _ same. same };
 }

@@ -1,5 +1,5 @@
 //! Answers that are looked at: by the definition, and by the connection however its bytes come.
-use crate::serving::{is_served, limits};
+use crate::serving::{MANY, is_served, limits};
 use crate::test_link::Way;
 use futures::test::MockTask;
 use http_plain::answers;
@@ -7,9 +7,6 @@ use service_core::{How, Octets};
 use std::alloc::{AllocError, AllocGlobal, Global};
 use std::random::RandomSource;
 use std::test::Fail;
-
-/// The most polls that a connection needs here.
-pub(crate) const MANY: usize = 10_000;
 
 // In which pieces the bytes come, and whether each is waited for.
 const PIECES: [(usize, bool); 5] = [

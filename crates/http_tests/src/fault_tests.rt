@@ -1,6 +1,6 @@
 //! A connection whose bytes end, or whose link fails, at any place of two requests.
-use crate::answering::{MANY, is_answered};
-use crate::serving::{OK, is_served};
+use crate::answering::is_answered;
+use crate::serving::{MANY, OK, is_served};
 use crate::test_link::Way;
 use futures::test::MockTask;
 use service_core::How;

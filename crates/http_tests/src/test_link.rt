@@ -74,6 +74,12 @@ impl TestLink {
         (self.taken, self.writes)
     }
 
+    /// Writes these bytes and all that were not taken.
+    pub(crate) fn write_rest(&mut self, unread: &[u8]) -> Result<(), AllocError> {
+        self.written.push_all(unread)?;
+        self.written.push_all(&self.held.as_bytes()[self.taken..])
+    }
+
     // The most bytes that a call moves, of so many.
     fn piece_of(&self, len: usize) -> usize
         ensures within { result ≤ len }

@@ -1,15 +1,17 @@
 //! A connection from its bytes to its answers.
 use crate::answering::{answered, answered_alike};
-use crate::echo::{Echo, EchoError};
-use crate::serving::{BAD, FIELDS_TOO_LARGE, OK, TOO_LARGE, handler, is_served, moved_by};
+use crate::echo::Echo;
+use crate::serving::{BAD, FIELDS_TOO_LARGE, OK, TOO_LARGE, echoing, is_served, moved_by};
 use crate::test_link::{TestLink, Way};
-use futures::task::{Context, Poll};
+use futures::task::Poll;
 use futures::test::MockTask;
-use http_service::{
-    H1ServiceHandler, answers_come_in_order, nothing_follows_a_closing_answer,
-    nothing_follows_a_refusal, served_writes,
+use http_flow::{ExpectHandler, UpgradeHandler};
+use http1_dispatcher::{
+    an_upgrade_ends_the_answers, answers_come_in_order, nothing_follows_a_closing_answer,
+    nothing_follows_a_refusal, nothing_follows_a_refused_body,
+    nothing_follows_a_refused_expectation, nothing_is_upgraded_unasked, served_writes,
 };
-use service_core::{Link, Octets, Service};
+use service_core::Octets;
 use std::alloc::{AllocError, Global};
 use std::test::Fail;
 
@@ -238,18 +240,11 @@ fn a_connection_that_waits_hands_its_link_back(rt: HostRuntime) -> Result<(), Fa
     Ok(())
 }
 
-fn readiness<L: Link>(
-    handler: &H1ServiceHandler<Echo>,
-    cx: &mut Context<'_>,
-) -> Poll<Result<(), EchoError>> {
-    Service::<L>::poll_ready(handler, cx)
-}
-
 #[test]
 fn it_is_ready_when_its_service_is(rt: HostRuntime) -> Result<(), Fail> {
-    let handler = handler(rt.alloc())?;
+    let flow = echoing(rt.alloc())?;
     let task = MockTask::new(&rt)?;
-    let ready = task.enter(|cx| readiness::<TestLink>(&handler, cx));
+    let ready = task.enter(|cx| flow.poll_ready::<TestLink>(cx));
     assert_eq!(rt; ready, Poll::Ready(Ok(())));
     Ok(())
 }
@@ -259,6 +254,10 @@ fn the_laws_run(rt: HostRuntime) {
     answers_come_in_order();
     nothing_follows_a_closing_answer();
     nothing_follows_a_refusal();
-    served_writes::<TestLink, Echo>();
+    nothing_follows_a_refused_body();
+    nothing_follows_a_refused_expectation();
+    an_upgrade_ends_the_answers();
+    nothing_is_upgraded_unasked();
+    served_writes::<TestLink, Echo, ExpectHandler, UpgradeHandler>();
     assert!(rt; true);
 }

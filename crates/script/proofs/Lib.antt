@@ -1,6 +1,6 @@
 pub mod Building
 pub mod Cutting
-pub mod Going
+pub mod Counted
 pub mod Lines
 pub mod Numbers
 pub mod OneWord

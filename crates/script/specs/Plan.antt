@@ -14,6 +14,9 @@ plan script = record {
   handler = script.settings.handler;
   limits = script.settings.limits;
   cut = script.settings.cut;
+  keeps_alive = script.settings.keeps_alive;
+  refuses_expectations = script.settings.refuses_expectations;
+  echoes_upgrades = script.settings.echoes_upgrades;
   listening = script.listening;
   connection = script.connection;
 }

@@ -1,13 +1,12 @@
 -- A connection as the lines of a script plan it.
-use Rattle.std.specs.Prelude.{◌≡◌, ℕ, List, [], ◌++◌, length, map, All}
-use Rattle.std.specs.List.{count_by}
+use Rattle.std.specs.Prelude.{ℕ, List, [], ◌++◌, length, map}
 use Rattle.std.specs.Simd.{first_chunks}
 use Rattle.std.specs.Slice.Iter.{chunk_count}
 use Rattle.service_core.specs.declared.peer.Peer.{Peer}
 use Rattle.server_run.specs.declared.read_step.ReadStep.{ReadStep}
 use Rattle.server_run.specs.declared.read_step.ReadStep.TheVariants.{Give}
 use Rattle.server_run.specs.declared.write_step.WriteStep.{WriteStep}
-use Rattle.server_run.specs.Steps.{TakesSome, given_by, is_read_fail, is_write_fail}
+use Rattle.server_run.specs.Steps.{given_by}
 
 -- its peer, and the steps that its reads and its writes go by
 pub record Planned : Type 0 where
@@ -36,9 +35,3 @@ pieces cut bytes = first_chunks cut (chunk_count (length bytes) cut) bytes
 -- a step for each piece
 abbrev pub gives : ℕ → List ℕ → List ReadStep
 gives cut bytes = map Give (pieces cut bytes)
-
--- no step fails, and each write that takes bytes takes one or more
-pub record GoesOn (reads : List ReadStep) (writes : List WriteStep) : Type 0 where
-  pub reads_go_on : count_by is_read_fail reads ≡ 0
-  pub writes_go_on : count_by is_write_fail writes ≡ 0
-  pub takes : All TakesSome writes

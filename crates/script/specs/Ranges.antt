@@ -4,15 +4,18 @@ use Rattle.script.specs.Numbers.{IsWithin}
 use Rattle.script.specs.declared.line.Line.{Line}
 use Rattle.script.specs.declared.line.Line.TheVariants.{Skip, Setting, Policy, Place}
 use Rattle.script.specs.declared.place.place_line.PlaceLine.{PlaceLine}
-use Rattle.script.specs.declared.place.place_line.PlaceLine.TheVariants.{Listener, Conn, Give, Wait, Take, WriteWait}
+use Rattle.script.specs.declared.place.place_line.PlaceLine.TheVariants.{Listener, Conn, Give, Wait, Take, WriteWait, FailRead, FailWrite}
 use Rattle.script.specs.declared.setting.setting_line.SettingLine.{SettingLine}
-use Rattle.script.specs.declared.setting.setting_line.SettingLine.TheVariants.{Head, Body, Cut, Handle}
+use Rattle.script.specs.declared.setting.setting_line.SettingLine.TheVariants.{Head, Body, Cut, Handle, KeepAliveOff, ExpectRefuse, UpgradeEcho}
 
 abbrev pub IsSettingInRange : SettingLine → Type 0
 IsSettingInRange (Head size) = IsWithin 1 65535 size
 IsSettingInRange (Body size) = IsWithin 1 16777216 size
 IsSettingInRange (Cut size) = IsWithin 1 65536 size
 IsSettingInRange (Handle handler) = ⊤
+IsSettingInRange KeepAliveOff = ⊤
+IsSettingInRange ExpectRefuse = ⊤
+IsSettingInRange UpgradeEcho = ⊤
 
 abbrev pub IsPlaceInRange : PlaceLine → Type 0
 IsPlaceInRange Listener = ⊤
@@ -21,6 +24,8 @@ IsPlaceInRange (Give bytes) = ⊤
 IsPlaceInRange Wait = ⊤
 IsPlaceInRange (Take most) = IsWithin 1 65536 most
 IsPlaceInRange WriteWait = ⊤
+IsPlaceInRange FailRead = ⊤
+IsPlaceInRange FailWrite = ⊤
 
 -- each number that the line says is in its range
 abbrev pub IsInRange : Line → Type 0

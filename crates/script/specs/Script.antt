@@ -7,9 +7,10 @@ use Rattle.service_core.specs.declared.peer.Peer.{Peer}
 use Rattle.service_core.specs.declared.peer.Peer.TheVariants.{V4, Local}
 use Rattle.http1_grammar.specs.Limits.{Limits}
 use Rattle.cors_rules.specs.Policy.{Builder, fresh}
-use Rattle.server_run.specs.declared.read_step.ReadStep.TheVariants.{NotYet}
+use Rattle.server_run.specs.declared.read_step.ReadStep.{ReadStep}
+use Rattle.server_run.specs.declared.read_step.ReadStep.TheVariants.{NotYet, Fail}
 use Rattle.server_run.specs.declared.write_step.WriteStep.{WriteStep}
-use Rattle.server_run.specs.declared.write_step.WriteStep.TheVariants.{Take as Takes, NotYet as WritesNotYet}
+use Rattle.server_run.specs.declared.write_step.WriteStep.TheVariants.{Take as Takes, NotYet as WritesNotYet, Fail as WriteFails}
 use Rattle.script.specs.Numbers.{number_behind, number_to}
 use Rattle.script.specs.Plain.{is_plain}
 use Rattle.script.specs.Planned.{Planned, and_reads, and_writes, gives, no_steps}
@@ -19,11 +20,11 @@ use Rattle.script.specs.declared.handler.Handler.TheVariants as handlers
 use Rattle.script.specs.declared.line.Line.{Line}
 use Rattle.script.specs.declared.line.Line.TheVariants.{Skip, Setting, Policy, Place}
 use Rattle.script.specs.declared.place.place_line.PlaceLine.{PlaceLine}
-use Rattle.script.specs.declared.place.place_line.PlaceLine.TheVariants.{Listener, Conn, Give, Wait, Take, WriteWait}
+use Rattle.script.specs.declared.place.place_line.PlaceLine.TheVariants.{Listener, Conn, Give, Wait, Take, WriteWait, FailRead, FailWrite}
 use Rattle.script.specs.declared.policy.policy_line.PolicyLine.{PolicyLine}
 use Rattle.script.specs.declared.policy.script_rule.ScriptRule.{ScriptRule}
 use Rattle.script.specs.declared.setting.setting_line.SettingLine.{SettingLine}
-use Rattle.script.specs.declared.setting.setting_line.SettingLine.TheVariants.{Head, Body, Cut, Handle}
+use Rattle.script.specs.declared.setting.setting_line.SettingLine.TheVariants.{Head, Body, Cut, Handle, KeepAliveOff, ExpectRefuse, UpgradeEcho}
 
 -- ---- the text of a `give` line
 
@@ -113,16 +114,27 @@ handler_line line =
     else if bytes_eq line (codes "handler fail") then Some handlers.Fail
     else status_line line
 
+-- a setting that has no value: connections close, expectations are refused, upgrades are echoed
+abbrev pub bare_setting : List ℕ → Option SettingLine
+bare_setting line =
+    if bytes_eq line (codes "keep-alive off") then Some KeepAliveOff
+    else if bytes_eq line (codes "expect refuse") then Some ExpectRefuse
+    else if bytes_eq line (codes "upgrade echo") then Some UpgradeEcho
+    else None
+
 abbrev pub setting_line : List ℕ → Option SettingLine
 setting_line line =
-    option_or (head_line line) (option_or (body_line line) (option_or (cut_line line) (option_map Handle (handler_line line))))
+    option_or (head_line line) (option_or (body_line line) (option_or (cut_line line)
+    (option_or (bare_setting line) (option_map Handle (handler_line line)))))
 
--- a listener; a read that is pending once, and such a write
+-- a listener; a read that is pending once, and such a write; a read that fails, and such a write
 abbrev pub bare_line : List ℕ → Option PlaceLine
 bare_line line =
     if bytes_eq line (codes "listener") then Some Listener
     else if bytes_eq line (codes "wait") then Some Wait
     else if bytes_eq line (codes "write-wait") then Some WriteWait
+    else if bytes_eq line (codes "fail-read") then Some FailRead
+    else if bytes_eq line (codes "fail-write") then Some FailWrite
     else None
 
 -- a connection
@@ -158,13 +170,17 @@ line_of line =
 -- ---- the plan
 
 -- the builder of the policy and whether a line spoke of it, the handler, the limits of its connection in bytes and of a
--- piece of what that gives, whether there is a listener, and its connection
+-- piece of what that gives, whether it stays open behind a response, whether expectations are refused and upgrades echoed,
+-- whether there is a listener, and its connection
 pub record Plan : Type 0 where
   pub cors : Builder ScriptRule
   pub has_policy : Bool
   pub handler : Handler
   pub limits : Limits
   pub cut : ℕ
+  pub keeps_alive : Bool
+  pub refuses_expectations : Bool
+  pub echoes_upgrades : Bool
   pub listening : Bool
   pub connection : Option Planned
 
@@ -178,6 +194,9 @@ nothing_yet = record {
   handler = handlers.Hello;
   limits = default_limits;
   cut = 65536;
+  keeps_alive = true;
+  refuses_expectations = false;
+  echoes_upgrades = false;
   listening = false;
   connection = None;
 }
@@ -188,6 +207,9 @@ and_setting plan (Head size) = record plan { limits = record { head = size; body
 and_setting plan (Body size) = record plan { limits = record { head = plan.limits.head; body = size } }
 and_setting plan (Cut size) = record plan { cut = size }
 and_setting plan (Handle handler) = record plan { handler = handler }
+and_setting plan KeepAliveOff = record plan { keeps_alive = false }
+and_setting plan ExpectRefuse = record plan { refuses_expectations = true }
+and_setting plan UpgradeEcho = record plan { echoes_upgrades = true }
 
 -- what is set before the listener
 abbrev pub with_setting : Plan → SettingLine → Option Plan
@@ -209,9 +231,9 @@ with_connection plan peer = if plan.listening && is_none plan.connection then So
 abbrev pub with_bytes : Plan → List ℕ → Option Plan
 with_bytes plan bytes = option_map (λ c. record plan { connection = Some (and_reads c (gives plan.cut bytes)) }) plan.connection
 
--- a read of it that is pending once
-abbrev pub with_wait : Plan → Option Plan
-with_wait plan = option_map (λ c. record plan { connection = Some (and_reads c (NotYet ∷ [])) }) plan.connection
+-- a step of its reads
+abbrev pub with_read : Plan → ReadStep → Option Plan
+with_read plan step = option_map (λ c. record plan { connection = Some (and_reads c (step ∷ [])) }) plan.connection
 
 -- a step of its writes
 abbrev pub with_write : Plan → WriteStep → Option Plan
@@ -221,9 +243,11 @@ abbrev pub with_place : Plan → PlaceLine → Option Plan
 with_place plan Listener = with_listener plan
 with_place plan (Conn peer) = with_connection plan peer
 with_place plan (Give bytes) = with_bytes plan bytes
-with_place plan Wait = with_wait plan
+with_place plan Wait = with_read plan NotYet
 with_place plan (Take most) = with_write plan (Takes most)
 with_place plan WriteWait = with_write plan WritesNotYet
+with_place plan FailRead = with_read plan Fail
+with_place plan FailWrite = with_write plan WriteFails
 
 -- what a plan becomes by a line, or none where the line can't stand there
 abbrev pub with_line : Plan → Line → Option Plan

@@ -1,7 +1,7 @@
 //! A connection of a script.
-ghost use Rattle.std.specs.Prelude.{◌≡◌, ◌<◌, ◌++◌, Some, [], ◌∷◌, false, OnErr, OnOk};
-ghost use Rattle.server_run.specs.Steps.{IsAtStart, TakesSome, is_write_fail};
-ghost use Rattle.server_run.specs.declared.read_step.ReadStep.TheVariants.{NotYet};
+ghost use Rattle.std.specs.Prelude.{◌≡◌, ◌<◌, ◌++◌, Some, [], ◌∷◌, OnErr, OnOk};
+ghost use Rattle.std.specs.List.{count_by};
+ghost use Rattle.server_run.specs.Steps.{IsAtStart, TakesSome, bytes_of, is_read_fail, is_write_fail};
 ghost use Rattle.script.specs.Planned.{and_reads, and_writes, gives, held_of, no_steps};
 
 use crate::pieces::push_pieces;
@@ -21,15 +21,15 @@ pub struct Connection {
 }
 
 impl Model for Connection {
-    ghost use Rattle.std.specs.Prelude.{◌≡◌, length};
-    ghost use Rattle.server_run.specs.Steps.{given_by};
-    ghost use Rattle.script.specs.Planned.{GoesOn, Planned};
+    ghost use Rattle.std.specs.Prelude.{◌≡◌, length, All};
+    ghost use Rattle.server_run.specs.Steps.{TakesSome, given_by};
+    ghost use Rattle.script.specs.Planned.{Planned};
 
     ghost Value = { Planned };
 
     ghost view = { λ c. record { peer = c.peer; reads = c.reads.items; writes = c.writes.items } };
 
-    ghost invariant = { λ c. (c.given ≡ length (given_by c.reads.items)) × GoesOn c.reads.items c.writes.items };
+    ghost invariant = { λ c. (c.given ≡ length (given_by c.reads.items)) × All TakesSome c.writes.items };
 }
 
 impl Connection {
@@ -86,19 +86,19 @@ impl Connection {
         Ok(())
     }
 
-    /// The next read is pending once.
-    pub(crate) fn push_wait(&mut self) -> Result<(), AllocError>
-        ensures ok { OnOk result (self.new ≡ and_reads self.old (NotYet ∷ [])) }
+    /// The next read goes by this step, which hands over no bytes.
+    pub(crate) fn push_read(&mut self, step: ReadStep) -> Result<(), AllocError>
+        requires { bytes_of step ≡ [] }
+        ensures ok { OnOk result (self.new ≡ and_reads self.old (step ∷ [])) }
         ensures err { OnErr result (self.new ≡ self.old) }
     {
-        self.reads.push(ReadStep::NotYet)?;
+        self.reads.push(step)?;
         Ok(())
     }
 
     /// The next write goes by this step.
     pub(crate) fn push_write(&mut self, step: WriteStep) -> Result<(), AllocError>
-        requires some { TakesSome step }
-        requires goes_on { is_write_fail step ≡ false }
+        requires { TakesSome step }
         ensures ok { OnOk result (self.new ≡ and_writes self.old (step ∷ [])) }
         ensures err { OnErr result (self.new ≡ self.old) }
     {
@@ -108,7 +108,7 @@ impl Connection {
 
     /// The link of this name that goes by these steps, and with which nothing was done.
     pub fn into_link(self, alloc: Global, name: u64) -> MemoryLink
-        ensures identity { ⟦<MemoryLink as Link>⟧.identity result ≡ record { name = Some name; peer = self.peer; held = Some (held_of self); read_fails = Some 0; write_fails = Some 0 } }
+        ensures identity { ⟦<MemoryLink as Link>⟧.identity result ≡ record { name = Some name; peer = self.peer; held = Some (held_of self); read_fails = Some (count_by is_read_fail self.reads); write_fails = Some (count_by is_write_fail self.writes) } }
         ensures taken { ⟦<MemoryLink as Link>⟧.taken result ≡ 0 }
         ensures written { ⟦<MemoryLink as Link>⟧.written result ≡ Some [] }
         ensures reads { result.reads.items ≡ self.reads }

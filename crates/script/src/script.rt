@@ -1,10 +1,10 @@
 //! A script, and what it asks for.
-ghost use Rattle.std.specs.Prelude.{◌≡◌, ◌&&◌, ◌||◌, if◌then◌else◌, false, IfOk, Option, OnErr, Some, None};
-ghost use Rattle.server_run.specs.Steps.{TakesSome, is_write_fail};
+ghost use Rattle.std.specs.Prelude.{◌≡◌, ◌&&◌, ◌||◌, if◌then◌else◌, false, [], IfOk, Option, OnErr, Some, None};
+ghost use Rattle.server_run.specs.Steps.{TakesSome, bytes_of};
 ghost use Rattle.script.specs.Plan.{plan};
 ghost use Rattle.script.specs.PolicyText.{is_permissive};
 ghost use Rattle.script.specs.Ranges.{IsInRange, IsPlaceInRange, IsSettingInRange};
-ghost use Rattle.script.specs.Script.{and_setting, nothing_yet, with_bytes, with_connection, with_line, with_listener, with_place, with_policy, with_setting, with_wait, with_write};
+ghost use Rattle.script.specs.Script.{and_setting, nothing_yet, with_bytes, with_connection, with_line, with_listener, with_place, with_policy, with_read, with_setting, with_write};
 
 use crate::connection::Connection;
 use crate::line::Line;
@@ -12,7 +12,7 @@ use crate::place::PlaceLine;
 use crate::policy::PolicyLine;
 use crate::setting::{SettingLine, Settings};
 use http1_plain::Limits;
-use server_run::WriteStep;
+use server_run::{ReadStep, WriteStep};
 use service_core::{Octets, Peer};
 use std::alloc::{AllocError, Global};
 
@@ -87,6 +87,15 @@ impl Script {
             SettingLine::Handle(handler) => {
                 self.settings.handler = handler;
             }
+            SettingLine::KeepAliveOff => {
+                self.settings.keeps_alive = false;
+            }
+            SettingLine::ExpectRefuse => {
+                self.settings.refuses_expectations = true;
+            }
+            SettingLine::UpgradeEcho => {
+                self.settings.echoes_upgrades = true;
+            }
         }
     }
 
@@ -120,9 +129,11 @@ impl Script {
             PlaceLine::Listener => Ok(self.push_listener()),
             PlaceLine::Conn(peer) => Ok(self.push_connection(alloc, peer)),
             PlaceLine::Give(bytes) => self.push_bytes(alloc, &bytes),
-            PlaceLine::Wait => self.push_wait(),
+            PlaceLine::Wait => self.push_read(ReadStep::NotYet),
             PlaceLine::Take(most) => self.push_write(WriteStep::Take(most)),
             PlaceLine::WriteWait => self.push_write(WriteStep::NotYet),
+            PlaceLine::FailRead => self.push_read(ReadStep::Fail),
+            PlaceLine::FailWrite => self.push_write(WriteStep::Fail),
         }
     }
 
@@ -162,23 +173,23 @@ impl Script {
         }
     }
 
-    fn push_wait(&mut self) -> Result<bool, AllocError>
-        ensures taken { IfOk result (λ taken. (if taken then Some (plan self.new) else None) ≡ with_wait (plan self.old)) }
+    fn push_read(&mut self, step: ReadStep) -> Result<bool, AllocError>
+        requires { bytes_of step ≡ [] }
+        ensures taken { IfOk result (λ taken. (if taken then Some (plan self.new) else None) ≡ with_read (plan self.old) step) }
         ensures refused { IfOk result (λ taken. taken ≡ false → plan self.new ≡ plan self.old) }
         ensures err { OnErr result (plan self.new ≡ plan self.old) }
     {
         match &mut self.connection {
             None => Ok(false),
             Some(connection) => {
-                connection.push_wait()?;
+                connection.push_read(step)?;
                 Ok(true)
             }
         }
     }
 
     fn push_write(&mut self, step: WriteStep) -> Result<bool, AllocError>
-        requires some { TakesSome step }
-        requires goes_on { is_write_fail step ≡ false }
+        requires { TakesSome step }
         ensures taken { IfOk result (λ taken. (if taken then Some (plan self.new) else None) ≡ with_write (plan self.old) step) }
         ensures refused { IfOk result (λ taken. taken ≡ false → plan self.new ≡ plan self.old) }
         ensures err { OnErr result (plan self.new ≡ plan self.old) }

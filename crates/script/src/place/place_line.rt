@@ -16,4 +16,8 @@ pub enum PlaceLine {
     Take(usize),
     /// Its next write is pending once.
     WriteWait,
+    /// Its next read fails.
+    FailRead,
+    /// Its next write fails.
+    FailWrite,
 }

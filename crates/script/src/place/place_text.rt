@@ -34,6 +34,12 @@ fn bare_line(line: &[u8]) -> Option<PlaceLine>
     if line == b"write-wait".as_slice() {
         return Some(PlaceLine::WriteWait);
     }
+    if line == b"fail-read".as_slice() {
+        return Some(PlaceLine::FailRead);
+    }
+    if line == b"fail-write".as_slice() {
+        return Some(PlaceLine::FailWrite);
+    }
     None
 }
 

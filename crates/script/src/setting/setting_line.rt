@@ -12,4 +12,10 @@ pub enum SettingLine {
     Cut(usize),
     /// This handler answers.
     Handle(Handler),
+    /// Connections close behind their first response.
+    KeepAliveOff,
+    /// An expectation is refused by 417.
+    ExpectRefuse,
+    /// A connection whose head names `upgrade` is echoed.
+    UpgradeEcho,
 }

@@ -1,6 +1,6 @@
 //! Reads the lines that set how connections are served.
 ghost use Rattle.std.specs.Prelude.{◌≡◌};
-ghost use Rattle.script.specs.Script.{handler_line, setting_line, status_line};
+ghost use Rattle.script.specs.Script.{bare_setting, handler_line, setting_line, status_line};
 
 use crate::final_status::FinalStatus;
 use crate::handler::Handler;
@@ -20,8 +20,27 @@ pub(crate) fn read_setting_line(line: &[u8]) -> Option<SettingLine>
     if let Some(size) = number_behind(b"cut ".as_slice(), 1, 65_536, line) {
         return Some(SettingLine::Cut(size));
     }
+    if let Some(said) = bare_setting(line) {
+        return Some(said);
+    }
     let handler = handler_line(line)?;
     Some(SettingLine::Handle(handler))
+}
+
+// A setting that has no value.
+fn bare_setting(line: &[u8]) -> Option<SettingLine>
+    ensures { result ≡ bare_setting line.now }
+{
+    if line == b"keep-alive off".as_slice() {
+        return Some(SettingLine::KeepAliveOff);
+    }
+    if line == b"expect refuse".as_slice() {
+        return Some(SettingLine::ExpectRefuse);
+    }
+    if line == b"upgrade echo".as_slice() {
+        return Some(SettingLine::UpgradeEcho);
+    }
+    None
 }
 
 // The handler that a line sets.

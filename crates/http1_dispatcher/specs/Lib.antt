@@ -1,0 +1,9 @@
+pub mod Requests
+pub mod Ending
+pub mod Progress
+pub mod Moves
+pub mod Steps
+pub mod Going
+pub mod Connection
+pub mod Connecting
+pub mod Dispatching

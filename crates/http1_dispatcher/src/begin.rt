@@ -1,0 +1,162 @@
+ghost use Rattle.std.specs.Prelude.{◌≡◌, ◌++◌, ◌<◌, IfOk, OnOk};
+ghost use Rattle.http1_grammar.specs.Reading.{IsRefusal};
+ghost use Rattle.http1_grammar.specs.Wire.{refusal};
+ghost use Rattle.http1_dispatcher.specs.Progress.{IsPlaced};
+ghost use Rattle.http1_dispatcher.specs.Steps.{Begins, IsAwaiting, IsCallOf, IsHeaded, IsOpen};
+ghost use Rattle.http1_dispatcher.specs.declared.exchange.Stage.TheVariants.{Closing, Reading};
+
+use crate::exchange::{Exchange, Reply, Stage};
+use crate::rules::Rules;
+use http1_head::{closes, expects, upgrades};
+use http1_plain::{Request, RequestHead};
+use http1_reader::Step;
+use service_core::{Octets, Peer};
+use std::alloc::{AllocError, Global};
+use std::mem;
+use std::snapshot::Snapshot;
+
+/// What the unread bytes began.
+#[derive(Drop)]
+pub(crate) enum Begun {
+    /// More bytes decide it.
+    NeedMore,
+    /// A head was read, or no more requests are.
+    On,
+    /// The expect service is to be asked with this request.
+    Asked(Request),
+    /// The service is to be called with this request.
+    Called(Request),
+}
+
+// Refuses the request, and closes.
+fn refuse(exchange: &mut Exchange, status: u16) -> Result<(), AllocError>
+    requires { IsRefusal status }
+    ensures { OnOk result (exchange.new
+        ≡ record exchange.old { out = exchange.old.out ++ refusal status; stage = Closing }) }
+{
+    exchange.out.push_refusal(status)?;
+    exchange.stage = Stage::Closing;
+    Ok(())
+}
+
+// Goes on as the head asks: to another protocol, to the expect service, or to its body.
+fn take_head(
+    exchange: &mut Exchange,
+    head: RequestHead,
+    rules: Rules,
+    peer: Peer,
+    alloc: Global,
+) -> Result<Begun, AllocError>
+    ensures stage { IfOk result (IsHeaded rules peer head exchange.new.stage) }
+    ensures reader { exchange.new.reader ≡ exchange.old.reader }
+    ensures out { exchange.new.out ≡ exchange.old.out }
+{
+    if upgrades(&head) && rules.has_upgrade {
+        exchange.stage = Stage::Upgrading { head };
+        return Ok(Begun::On);
+    }
+    let reply = Reply {
+        method: head.method.clone()?,
+        version: head.version,
+        closing: closes(rules.keeps_alive, &head),
+    };
+    if expects(&head) {
+        let request = Request {
+            head,
+            body: Octets::new(alloc),
+            peer,
+        };
+        exchange.stage = Stage::Asking {
+            request: Snapshot::of(&request),
+            reply,
+        };
+        return Ok(Begun::Asked(request));
+    }
+    exchange.stage = Stage::Awaiting { head, peer, reply };
+    Ok(Begun::On)
+}
+
+// Reads the next head.
+fn begin_head(
+    exchange: &mut Exchange,
+    rules: Rules,
+    peer: Peer,
+    alloc: Global,
+) -> Result<Begun, AllocError>
+    requires stage { exchange.old.stage ≡ Reading }
+    requires placed { IsPlaced rules exchange.old }
+    requires limited { 0 < rules.limits.head }
+    ensures { IfOk result (Begins rules peer exchange.old exchange.new) }
+{
+    match exchange.reader.next()? {
+        Step::NeedMore => Ok(Begun::NeedMore),
+        Step::Head(head) => take_head(exchange, head, rules, peer, alloc),
+        Step::Body(_) => unreachable!(),
+        Step::Refused(status) => {
+            refuse(exchange, status)?;
+            Ok(Begun::On)
+        }
+    }
+}
+
+// Calls the service with the request that waited for this body.
+fn take_body(exchange: &mut Exchange, body: Octets) -> Begun
+    requires { IsAwaiting exchange.old.stage }
+    ensures stage { IsCallOf exchange.old.stage body exchange.new.stage result }
+    ensures reader { exchange.new.reader ≡ exchange.old.reader }
+    ensures out { exchange.new.out ≡ exchange.old.out }
+{
+    match mem::replace(&mut exchange.stage, Stage::Closing) {
+        Stage::Awaiting { head, peer, reply } => {
+            let request = Request { head, body, peer };
+            exchange.stage = Stage::Calling {
+                request: Snapshot::of(&request),
+                reply,
+            };
+            Begun::Called(request)
+        }
+        Stage::Reading
+        | Stage::Asking { .. }
+        | Stage::Calling { .. }
+        | Stage::Upgrading { .. }
+        | Stage::Closing => unreachable!(),
+    }
+}
+
+// Reads the body of the head that was read.
+fn begin_body(exchange: &mut Exchange, rules: Rules, peer: Peer) -> Result<Begun, AllocError>
+    requires stage { IsAwaiting exchange.old.stage }
+    requires placed { IsPlaced rules exchange.old }
+    requires limited { 0 < rules.limits.head }
+    ensures { IfOk result (Begins rules peer exchange.old exchange.new) }
+{
+    match exchange.reader.next()? {
+        Step::NeedMore => Ok(Begun::NeedMore),
+        Step::Head(_) => unreachable!(),
+        Step::Body(body) => Ok(take_body(exchange, body)),
+        Step::Refused(status) => {
+            refuse(exchange, status)?;
+            Ok(Begun::On)
+        }
+    }
+}
+
+/// Takes the next step, if the unread bytes decide it.
+pub(crate) fn begin(
+    exchange: &mut Exchange,
+    rules: Rules,
+    peer: Peer,
+    alloc: Global,
+) -> Result<Begun, AllocError>
+    requires open { IsOpen exchange.old.stage }
+    requires placed { IsPlaced rules exchange.old }
+    requires limited { 0 < rules.limits.head }
+    ensures { IfOk result (Begins rules peer exchange.old exchange.new) }
+{
+    match &exchange.stage {
+        Stage::Reading => begin_head(exchange, rules, peer, alloc),
+        Stage::Awaiting { .. } => begin_body(exchange, rules, peer),
+        Stage::Asking { .. } | Stage::Calling { .. } | Stage::Upgrading { .. } | Stage::Closing =>
+            unreachable!(),
+    }
+}

@@ -1,5 +1,0 @@
-use Rattle.http_service.proofs.Answering.{served_refused}
-use Rattle.http_service.proofs.laws.nothing_follows_a_refusal.Goals as goal
-
-pub returns : goal.returns
-returns c = served_refused
