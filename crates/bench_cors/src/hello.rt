@@ -1,12 +1,12 @@
 //! The service that stands under the policy.
-ghost use Rattle.std.specs.Prelude.{◌≡◌, ◌∷◌, [], None, IfOk, codes};
+ghost use Rattle.std.specs.Prelude.{◌≡◌, ◌∷◌, [], IfOk, codes};
 ghost use Rattle.service_core.specs.Meaning.{GivesOnly};
 
 use futures::Future;
 use futures::task::{Context, Poll};
 use http_header::CONTENT_TYPE;
-use http1_plain::{ErrorResponse, FieldValue, Request, Response};
-use service_core::{Ready, Service, err, ok};
+use http1_plain::{FieldValue, Request, Response};
+use service_core::{Ready, Service, ready};
 use std::alloc::{AllocError, Global};
 
 /// It answers each request with `Hello world!` as plain text.
@@ -14,18 +14,6 @@ use std::alloc::{AllocError, Global};
 pub struct Hello {
     /// Where its answers take memory.
     pub alloc: Global,
-}
-
-/// Memory ran out.
-#[derive(Drop)]
-pub struct HelloFault;
-
-impl ErrorResponse for HelloFault {
-    ghost response = { λ _. None };
-
-    fn into_response(self, _alloc: Global) -> Result<Response, AllocError> {
-        Err(AllocError)
-    }
 }
 
 // The response to every request.
@@ -46,26 +34,23 @@ fn response(alloc: Global) -> Result<Response, AllocError>
 impl Service<Request> for Hello {
     type Response = Response;
 
-    type Error = HelloFault;
+    type Error = AllocError;
 
-    type Future = Ready<Result<Response, HelloFault>>;
+    type Future = Ready<Result<Response, AllocError>>;
 
     ghost may = { λ _ _ _. Unit {0} };
 
     ghost may_ready = { λ _ _. Unit {0} };
 
-    ghost may_begin = { λ _ _ f. GivesOnly ⟦<Ready<Result<Response, HelloFault>> as Future>⟧ f (λ _. Unit {0}) };
+    ghost may_begin = { λ _ _ f. GivesOnly ⟦<Ready<Result<Response, AllocError>> as Future>⟧ f (λ _. Unit {0}) };
 
     ghost begun_gives = { λ s q f h. h };
 
-    fn poll_ready(&self, _cx: &mut Context<'_>) -> Poll<Result<(), HelloFault>> {
+    fn poll_ready(&self, _cx: &mut Context<'_>) -> Poll<Result<(), AllocError>> {
         Poll::Ready(Ok(()))
     }
 
-    fn call(&self, _req: Request) -> Ready<Result<Response, HelloFault>> {
-        match response(self.alloc) {
-            Ok(response) => ok(response),
-            Err(_) => err(HelloFault),
-        }
+    fn call(&self, _req: Request) -> Ready<Result<Response, AllocError>> {
+        ready(response(self.alloc))
     }
 }

@@ -1,12 +1,12 @@
 //! The handler that stands under the policy.
-ghost use Rattle.std.specs.Prelude.{⊤, None};
+ghost use Rattle.std.specs.Prelude.{⊤};
 ghost use Rattle.service_core.specs.Meaning.{GivesOnly};
 
 use futures::Future;
 use futures::task::{Context, Poll};
 use http_header::CONTENT_TYPE;
-use http1_plain::{ErrorResponse, FieldValue, Request, Response};
-use service_core::{Ready, Service, ServiceFactory, err, ok};
+use http1_plain::{FieldValue, Request, Response};
+use service_core::{Ready, Service, ServiceFactory, ok, ready};
 use std::alloc::{AllocError, Global};
 
 /// It answers each request with `Hello world!` as plain text. It is the factory of such handlers too.
@@ -16,28 +16,16 @@ pub struct Hello {
     pub alloc: Global,
 }
 
-/// Memory ran out.
-#[derive(Drop)]
-pub struct HelloFault;
-
-impl ErrorResponse for HelloFault {
-    ghost response = { λ _. None };
-
-    fn into_response(self, _alloc: Global) -> Result<Response, AllocError> {
-        Err(AllocError)
-    }
-}
-
 // The response to every request.
-fn response(alloc: Global) -> Result<Response, HelloFault> {
+fn response(alloc: Global) -> Result<Response, AllocError> {
     let mut response = Response::new(alloc, 200);
     response.set_static_body(b"Hello world!");
     let value = FieldValue::from_static(alloc, b"text/plain");
     match response.headers_mut().append(CONTENT_TYPE, value) {
         Ok(()) => Ok(response),
-        Err(_) => {
+        Err(error) => {
             drop(response);
-            Err(HelloFault)
+            Err(error)
         }
     }
 }
@@ -45,34 +33,31 @@ fn response(alloc: Global) -> Result<Response, HelloFault> {
 impl Service<Request> for Hello {
     type Response = Response;
 
-    type Error = HelloFault;
+    type Error = AllocError;
 
-    type Future = Ready<Result<Response, HelloFault>>;
+    type Future = Ready<Result<Response, AllocError>>;
 
     ghost may = { λ _ _ _. ⊤ };
 
     ghost may_ready = { λ _ _. ⊤ };
 
-    ghost may_begin = { λ _ _ f. GivesOnly ⟦<Ready<Result<Response, HelloFault>> as Future>⟧ f (λ _. ⊤) };
+    ghost may_begin = { λ _ _ f. GivesOnly ⟦<Ready<Result<Response, AllocError>> as Future>⟧ f (λ _. ⊤) };
 
     ghost begun_gives = { λ s q f h. h };
 
-    fn poll_ready(&self, _cx: &mut Context<'_>) -> Poll<Result<(), HelloFault>> {
+    fn poll_ready(&self, _cx: &mut Context<'_>) -> Poll<Result<(), AllocError>> {
         Poll::Ready(Ok(()))
     }
 
-    fn call(&self, _req: Request) -> Ready<Result<Response, HelloFault>> {
-        match response(self.alloc) {
-            Ok(response) => ok(response),
-            Err(fault) => err(fault),
-        }
+    fn call(&self, _req: Request) -> Ready<Result<Response, AllocError>> {
+        ready(response(self.alloc))
     }
 }
 
 impl ServiceFactory<Request> for Hello {
     type Response = Response;
 
-    type Error = HelloFault;
+    type Error = AllocError;
 
     type Config = ();
 
@@ -86,7 +71,7 @@ impl ServiceFactory<Request> for Hello {
 
     ghost may_ready = { λ _ _ _. ⊤ };
 
-    ghost may_begin = { λ _ _ _ f. GivesOnly ⟦<Ready<Result<Response, HelloFault>> as Future>⟧ f (λ _. ⊤) };
+    ghost may_begin = { λ _ _ _ f. GivesOnly ⟦<Ready<Result<Response, AllocError>> as Future>⟧ f (λ _. ⊤) };
 
     ghost may_init = { λ _ _ _. ⊤ };
 

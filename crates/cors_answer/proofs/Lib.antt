@@ -1,2 +1,3 @@
 pub mod PolicySteps
 pub mod CopySteps
+pub mod Ready

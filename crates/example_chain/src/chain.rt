@@ -3,7 +3,7 @@ ghost use Rattle.std.specs.Prelude.{IfOk};
 
 use crate::asked::{of_no_origin, of_the_shop};
 use crate::failure::Failure;
-use crate::page::{NoPage, page};
+use crate::page::page;
 use crate::shown::Shown;
 use cors_answer::{Cors, CorsFault, CorsInitError};
 use cors_policy::NoRule;
@@ -207,7 +207,7 @@ where
         Request,
         Config = (),
         Response = Response,
-        Error = NoPage,
+        Error = AllocError,
         InitError = AllocError,
         Service: Drop,
     >

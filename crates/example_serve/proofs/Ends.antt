@@ -1,16 +1,12 @@
--- A service of connections never errs, and keeps its link.
-use Rattle.std.proofs.Common.{◌≡◌, Result, Ok, Err, None, Option}
+-- A service of connections never errs.
+use Rattle.std.proofs.Common.{Result, Ok, Err}
 use Rattle.service_core.specs.declared.ended.Ended.{Ended}
 use Rattle.service_core.specs.declared.link.Link.{Ghosts as LinkOf}
 use Rattle.service_core.specs.declared.peer.Peer.{Peer}
-use Rattle.http_flow.specs.Creating.{OfPart}
 use Rattle.http_service.specs.Serving.{Serves, Serving}
 use Rattle.server_run.specs.Creating.{OnlyEnds}
 
-pub keeps : {L E XE A : Type 0} (g : LinkOf L) (s : Serving L E XE) (peer : Peer) (link : L) (r : Result (Ended L) A)
-    → Serves g s peer link r → OnlyEnds (λ ended. g.identity ended.link ≡ g.identity link) r
-keeps g s peer link (Ok ended) given = given.ends.same
-keeps g s peer link (Err e) given = given
-
-pub of_none : {A : Type 0} (part : Option A) (P : A → Type 0) → part ≡ None → OfPart part P
-of_none part P none = rw none tt
+pub only_ends : {L E XE A : Type 0} (g : LinkOf L) (s : Serving L E XE) (peer : Peer) (link : L) (r : Result (Ended L) A)
+    → Serves g s peer link r → OnlyEnds (λ ended. Serves {A = A} g s peer link (Ok ended)) r
+only_ends g s peer link (Ok ended) given = given
+only_ends g s peer link (Err e) given = given

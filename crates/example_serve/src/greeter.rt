@@ -3,11 +3,10 @@ ghost use Rattle.futures.specs.declared.task.Poll.TheVariants.{Ready as PollRead
 ghost use Rattle.service_core.specs.Meaning.{GivesOnly};
 ghost use Rattle.example_serve.specs.Greeting.{greeting, Greets};
 
-use crate::no_greeting::NoGreeting;
 use futures::Future;
 use futures::task::{Context, Poll};
 use http1_plain::{Request, Response};
-use service_core::{Octets, Ready, Service, ServiceFactory, err, ok};
+use service_core::{Octets, Ready, Service, ServiceFactory, ok, ready};
 use std::alloc::{AllocError, Global};
 
 /// The handler: it greets each request by its target.
@@ -32,27 +31,24 @@ impl Greeter {
 impl Service<Request> for Greeter {
     type Response = Response;
 
-    type Error = NoGreeting;
+    type Error = AllocError;
 
-    type Future = Ready<Result<Response, NoGreeting>>;
+    type Future = Ready<Result<Response, AllocError>>;
 
     ghost may = { λ _ request result. Greets request result };
 
     ghost may_ready = { λ _ answer. answer ≡ PollReady (Ok tt) };
 
-    ghost may_begin = { λ _ request future. GivesOnly ⟦<Ready<Result<Response, NoGreeting>> as Future>⟧ future (Greets request) };
+    ghost may_begin = { λ _ request future. GivesOnly ⟦<Ready<Result<Response, AllocError>> as Future>⟧ future (Greets request) };
 
     ghost begun_gives = { λ _ _ _ begun. begun };
 
-    fn poll_ready(&self, _cx: &mut Context<'_>) -> Poll<Result<(), NoGreeting>> {
+    fn poll_ready(&self, _cx: &mut Context<'_>) -> Poll<Result<(), AllocError>> {
         Poll::Ready(Ok(()))
     }
 
-    fn call(&self, request: Request) -> Ready<Result<Response, NoGreeting>> {
-        match self.greeting(request.head.target.as_bytes()) {
-            Ok(response) => ok(response),
-            Err(_) => err(NoGreeting),
-        }
+    fn call(&self, request: Request) -> Ready<Result<Response, AllocError>> {
+        ready(self.greeting(request.head.target.as_bytes()))
     }
 }
 
@@ -60,7 +56,7 @@ impl Service<Request> for Greeter {
 impl ServiceFactory<Request> for Greeter {
     type Response = Response;
 
-    type Error = NoGreeting;
+    type Error = AllocError;
 
     type Config = ();
 
@@ -74,7 +70,7 @@ impl ServiceFactory<Request> for Greeter {
 
     ghost may_ready = { λ _ _ answer. answer ≡ PollReady (Ok tt) };
 
-    ghost may_begin = { λ _ _ request future. GivesOnly ⟦<Ready<Result<Response, NoGreeting>> as Future>⟧ future (Greets request) };
+    ghost may_begin = { λ _ _ request future. GivesOnly ⟦<Ready<Result<Response, AllocError>> as Future>⟧ future (Greets request) };
 
     ghost may_init = { λ _ _ _. ⊥ };
 

@@ -1,65 +1,64 @@
-ghost use Rattle.std.specs.Prelude.{◌≡◌, ⊤, None};
+ghost use Rattle.std.specs.Prelude.{◌≡◌, ⊤, Ok};
+ghost use Rattle.futures.specs.declared.task.Poll.TheVariants.{Ready as PollReady};
+ghost use Rattle.http_service.specs.Making.{serving_made};
+ghost use Rattle.http_service.specs.Serving.{Leaves};
+ghost use Rattle.example_serve.specs.Connections.{connections_of};
 
 use crate::greeter::Greeter;
-use cors_answer::Cors;
-use cors_policy::NoRule;
-use http_service::{ExpectHandler, HttpService, HttpTcpFactory, UpgradeHandler};
-use http1_plain::{Limits, Request};
+use http_flow::{ExpectHandler, Framed, Never, UpgradeHandler};
+use http_service::{HttpService, HttpTcpFactory};
+use http1_plain::{ErrorResponse, Limits, Request};
 use server_run::ServerServiceFactory;
-use service_core::{ApplyTransform, Link, apply};
+use service_core::{Link, ServiceFactory};
 use std::alloc::{AllocError, Global};
-use std::sync::Arc;
-use std::time::Duration;
 
-// The greeter under a policy.
-type Policed = ApplyTransform<Arc<Cors<NoRule>>, Greeter, Request>;
-
-// Connections that it answers.
-type Connections<L> = HttpTcpFactory<L, Policed, ExpectHandler, UpgradeHandler>;
-
-/// Makes what serves a listener's connections: the greeter, under a policy on requests from other origins.
-#[derive(Drop)]
+/// Makes what serves a listener's connections: the greeter, within limits.
+#[derive(Clone, Copy)]
 pub struct GreeterFactory {
     /// What answers each request.
     pub greeter: Greeter,
-    /// Which origins may read its answers.
-    pub cors: Arc<Cors<NoRule>>,
+    /// How many bytes of a head and of a body a connection reads.
+    pub limits: Limits,
 }
 
 impl GreeterFactory {
-    // The factory of connections over that of the policed greeter.
-    fn connections<L: Link>(&self, alloc: Global, policed: Policed) -> Connections<L>
-        ensures { result.upgrade ≡ None }
+    // The factory of connections.
+    fn connections<L>(&self, alloc: Global) -> HttpTcpFactory<L, Greeter>
+        ensures { result ≡ connections_of self.now }
     {
         HttpService::build(alloc)
-            .keep_alive(Duration::from_secs(5))
-            .limits(Limits::new(8_192, 65_536))
-            .finish(policed)
+            .limits(self.limits)
+            .finish(self.greeter)
             .tcp()
     }
 }
 
 impl<L: Link> ServerServiceFactory<L> for GreeterFactory {
-    type Factory = Connections<L>;
+    type Factory = HttpTcpFactory<L, Greeter>;
 
-    // A link comes back as the one that was given. Nothing more is promised here.
-    ghost may_serve = { λ _ _ link ended. L.identity ended.link ≡ L.identity link };
+    // What the services of these connections say of a link.
+    ghost may_serve = { λ f _ link ended. ⟦<HttpTcpFactory<L, Greeter> as ServiceFactory<L>>⟧.may (connections_of f) tt link (Ok ended) };
 
-    ghost may_leave = { λ _ _ link back. L.identity back ≡ L.identity link };
+    ghost may_leave = { λ f _ link back. Leaves L.Link (serving_made
+        ⟦<Greeter as ServiceFactory<Request>>⟧ ⟦<AllocError as ErrorResponse>⟧.response
+        ⟦<ExpectHandler as ServiceFactory<Request>>⟧ ⟦<Never as ErrorResponse>⟧.response
+        ⟦<UpgradeHandler as ServiceFactory<(Request, Framed<L>)>>⟧ (connections_of f)) (L.identity link).peer link back };
 
-    ghost may_ready = { λ _ _ _. ⊤ };
+    ghost may_ready = { λ _ _ answer. answer ≡ PollReady (Ok tt) };
 
     ghost may_init = { λ _ _ _. ⊤ };
 
     ghost may_make = { λ _ _. ⊤ };
 
-    fn create(&self, alloc: Global, _token: usize) -> Result<Connections<L>, AllocError> {
-        let cors = Arc::try_clone(&self.cors)?;
-        let policed = apply(alloc, cors, self.greeter)?;
-        Ok(self.connections(alloc, policed))
+    fn create(
+        &self,
+        alloc: Global,
+        _token: usize,
+    ) -> Result<HttpTcpFactory<L, Greeter>, AllocError> {
+        Ok(self.connections(alloc))
     }
 
-    ghost same_served = { λ _ _ _ _ same. same };
+    ghost same_served = { λ _ _ _ _ served. served.ends.same };
 
-    ghost same_left = { λ _ _ _ _ same. same };
+    ghost same_left = { λ _ _ _ _ left. left.ends.same };
 }

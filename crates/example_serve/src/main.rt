@@ -4,17 +4,15 @@
 mod connections;
 mod greeter;
 mod greeter_factory;
-mod no_greeting;
 
 use command_line::print;
 use connections::listener;
-use cors_answer::Cors;
 use greeter::Greeter;
 use greeter_factory::GreeterFactory;
+use http1_plain::Limits;
 use server_run::{Entry, Host, KeepAll, MemoryLink, Server};
 use std::alloc::{AllocError, Global};
 use std::process::ExitCode;
-use std::sync::Arc;
 
 // The entry in words: the listener's token, the place among its connections, how it ended, and what was written.
 fn push_line(
@@ -36,7 +34,7 @@ fn served<H: Host>(rt: &H, alloc: Global) -> Result<String, AllocError> {
     let mut done = KeepAll::new(alloc);
     let server = Server::build(alloc)?.run(GreeterFactory {
         greeter: Greeter { alloc },
-        cors: Arc::new(alloc, Cors::permissive(alloc)?)?,
+        limits: Limits::new(8_192, 65_536),
     });
     let Ok(_) = server.serve(rt, alloc, &mut listeners, &mut done) else {
         return Err(AllocError);

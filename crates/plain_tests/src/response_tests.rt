@@ -5,7 +5,7 @@ use crate::shown::{every, hold, holds};
 use http::method::Method;
 use http_header::VARY;
 use http1_plain::{
-    HeaderList, HttpVersion, Response, write_continue, write_refusal, write_response,
+    ErrorResponse, HeaderList, HttpVersion, Response, write_continue, write_refusal, write_response,
 };
 use service_core::Octets;
 use std::alloc::{AllocError, Global};
@@ -241,4 +241,9 @@ fn no_such_page_is_changed(alloc: Global) -> Result<bool, AllocError> {
 #[test]
 fn a_response_is_changed(rt: HostRuntime) -> Result<(), Fail> {
     holds(&rt, no_such_page_is_changed(rt.alloc()))
+}
+
+#[test]
+fn want_of_memory_has_no_response(rt: HostRuntime) {
+    assert!(rt; AllocError.into_response(rt.alloc()).is_err());
 }

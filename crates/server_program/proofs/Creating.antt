@@ -1,9 +1,7 @@
 -- What the services of a replayed script's connections give.
-use Rattle.std.proofs.Common.{◌≡◌, ◌⊎◌, ℕ, List, Bool, true, Option, Some, None, Result, Ok, Err, inl, inr, sym, subst, ◌∙◌, refl}
+use Rattle.std.proofs.Common.{◌≡◌, ℕ, List, Bool, true, Option, Some, None, Result, Ok, Err, sym, subst}
 use Rattle.std.specs.Option.{is_some}
-use Rattle.futures.specs.declared.task.Poll.TheVariants.{Ready, Pending}
 use Rattle.http_flow.specs.Creating.{FailsInOrder, OfPart, OfSomePart}
-use Rattle.http_flow.specs.Readying.{OrReady, ReadyInOrder}
 use Rattle.cors_answer.specs.Transforms.{Refuses}
 use Rattle.cors_answer.specs.declared.init_error.CorsInitError.{CorsInitError}
 use Rattle.cors_rules.specs.Policy.{Builder}
@@ -17,28 +15,14 @@ use Rattle.http_flow.specs.declared.http_init_error.HttpInitError.TheVariants as
 use Rattle.http_flow.specs.declared.never.Never.{Never}
 use Rattle.script.specs.declared.policy.script_rule.ScriptRule.{ScriptRule}
 use Rattle.server_program.specs.Factories.{RefusesSite}
-use Rattle.service_core.specs.Holding.{OfKept}
-use Rattle.http_flow.specs.declared.dispatch_error.DispatchError.{DispatchError}
-use Rattle.http_flow.specs.declared.dispatch_error.DispatchError.TheVariants.{Service as NotReady, UnsupportedProtocol}
 use Rattle.http_flow.specs.declared.framed.Handed.{Handed}
-use Rattle.http_flow.specs.declared.ready_fault.ReadyFault.TheVariants.{Expect, Service, Upgrade}
 use Rattle.http1_dispatcher.specs.Ending.{EndsWith, WroteBy}
 use Rattle.http1_dispatcher.specs.Requests.{AreFunctions, served}
 use Rattle.http1_dispatcher.specs.declared.rules.Rules.{Rules}
-use Rattle.http_service.specs.Serving.{Leaves, ReadyAs, Serves, Serving}
+use Rattle.http_service.specs.Serving.{Leaves, Serves, Serving}
 use Rattle.server_program.specs.Serving.{LeavesScript, ServesScript}
 use Rattle.server_program.specs.Sites.{Site, functions_at, rules_at}
 use Rattle.server_run.specs.Creating.{OnlyEnds}
-use Rattle.cors_answer.specs.Meaning.{ReadyAs as ReadyUnder, ReadyBy}
-use Rattle.cors_answer.specs.declared.fault.CorsFault.{CorsFault}
-use Rattle.handlers.specs.Handlers.{response_of_fault}
-use Rattle.handlers.specs.declared.handler_fault.HandlerFault.{HandlerFault}
-use Rattle.http1_grammar.specs.Wire.{Response}
-use Rattle.http1_plain.specs.declared.request.Request.{Request}
-use Rattle.service_core.specs.Made.{MadeBy}
-use Rattle.service_core.specs.Meaning.{Follows, Readiness, Within}
-use Rattle.service_core.specs.declared.service.Service.{Ghosts as ServiceOf}
-use Rattle.service_core.specs.declared.service_factory.ServiceFactory.{Ghosts as FactoryOf}
 use Rattle.service_core.specs.declared.ended.Ended.{Ended}
 use Rattle.service_core.specs.declared.ended.How.TheVariants.{Memory}
 use Rattle.service_core.specs.declared.link.Link.{Ghosts as LinkOf}
@@ -73,42 +57,6 @@ pub leaves_from : {L E XE : Type 0} (s : Serving L E XE) (g : LinkOf L) (site : 
     → Leaves g s (g.identity link).peer link left → AreFunctions s.relations (functions_at site) → s.rules ≡ rules_at site
     → ((asked : Asked L) (handed : Handed L) → s.hands asked handed → site.echoes_upgrades ≡ true) → LeavesScript site g link left
 leaves_from s g site link left given are rules echoes = leaves_script g site s are rules echoes link left given
-
--- parts that are always ready are so together
-module _ {E XE UE V : Type 0} (service : Readiness E → Type 0) (expect : Readiness XE → Type 0) (upgrade : V → Readiness UE → Type 0) (part : Option V)
-    (serving : (answer : Readiness E) → service answer → answer ≡ Ready (Ok tt))
-    (expecting : (answer : Readiness XE) → expect answer → answer ≡ Ready (Ok tt))
-    (upgrading : (v : V) (answer : Readiness UE) → upgrade v answer → answer ≡ Ready (Ok tt)) where
-  part_ready : (o : Option V) (answer : Readiness UE) → OrReady o upgrade answer → answer ≡ Ready (Ok tt)
-  part_ready None answer p = p
-  part_ready (Some v) answer p = upgrading v answer p
-
-  ready_together : {L : Type 0} (answer : Readiness (DispatchError L E XE UE)) → ReadyAs (ReadyInOrder service expect (OrReady part upgrade)) answer
-      → answer ≡ Ready (Ok tt)
-  ready_together (Ready (Ok done)) p = refl
-  ready_together (Ready (Err (NotReady (Expect e)))) p = absurd (let is = expecting (Ready (Err e)) p in cc)
-  ready_together (Ready (Err (NotReady (Service e)))) p = absurd (let is = serving (Ready (Err e)) p.1 in cc)
-  ready_together (Ready (Err (NotReady (Upgrade e)))) p = absurd (let is = part_ready part (Ready (Err e)) p.2 in cc)
-  ready_together (Ready (Err (UnsupportedProtocol protocol link))) p = absurd p
-  ready_together Pending (inl p) = absurd (let is = expecting Pending p in cc)
-  ready_together Pending (inr (inl p)) = absurd (let is = serving Pending p.1 in cc)
-  ready_together Pending (inr (inr p)) = absurd (let is = part_ready part Pending p.2 in cc)
-
-pub ready_from : {L E XE UE V : Type 0} (service : Readiness E → Type 0) (expect : Readiness XE → Type 0) (upgrade : V → Readiness UE → Type 0)
-    (part : Option V) (answer : Readiness (DispatchError L E XE UE)) → ReadyAs (ReadyInOrder service expect (OrReady part upgrade)) answer
-    → ((answer : Readiness E) → service answer → answer ≡ Ready (Ok tt))
-    → ((answer : Readiness XE) → expect answer → answer ≡ Ready (Ok tt))
-    → ((v : V) (answer : Readiness UE) → upgrade v answer → answer ≡ Ready (Ok tt)) → answer ≡ Ready (Ok tt)
-ready_from service expect upgrade part answer ready serving expecting upgrading =
-    ready_together service expect upgrade part serving expecting upgrading answer ready
-
--- a service under a policy is always ready where those that its factory makes are
-pub policed_ready : {M S I MF F : Type 0} (mg : FactoryOf M Request Response HandlerFault (Unit {0}) S I MF F) (sg : ServiceOf S Request Response HandlerFault F)
-    (m : M) → ((answer : Readiness HandlerFault) → mg.may_ready m tt answer → answer ≡ Ready (Ok tt)) → (answer : Readiness CorsFault)
-    → Follows (MadeBy mg sg m tt) (λ s. ReadyBy response_of_fault (sg.may_ready s)) answer → answer ≡ Ready (Ok tt)
-policed_ready mg sg m always answer through =
-    subst (λ from. ReadyUnder response_of_fault from answer) (always through.holds.from (through.comes.readiness through.holds.from through.holds.given))
-    through.holds.goes
 
 -- what a part hands back that is there
 pub echoes_by : {V : Type 0} (part : Option V) (P : V → Type 0) (b : Bool) → is_some part ≡ b → OfSomePart part P → b ≡ true

@@ -2,17 +2,19 @@ use Rattle.std.proofs.Common.{◌≡◌, None, ap, inl, inr, refl, subst, ◌∙
 use Rattle.std.specs.Arc.{arc_value}
 use Rattle.http1_plain.specs.Views.{request_of}
 use Rattle.service_core.specs.Shown.{applied, wrapped}
+use Rattle.cors_answer.proofs.Ready.{policed_ready}
 use Rattle.cors_answer.specs.Transforms.{Refuses}
 use Rattle.cors_rules.specs.Answers.{cors}
 use Rattle.cors_rules.specs.Policy.{Builder}
 use Rattle.cors_rules.specs.Refusing.{config_error}
 use Rattle.handlers.specs.contracts.handler_service.HandlerServiceServiceFactoryRequest.TheImpl.{ghosts}
-use Rattle.handlers.specs.Handlers.{handler_response}
+use Rattle.handlers.specs.Handlers.{handler_response, response_of_fault}
+use Rattle.http_service.proofs.Ready.{ready_from}
 use Rattle.script.specs.Rules.{script_rules}
 use Rattle.script.specs.declared.handler.Handler.{Handler}
 use Rattle.script.specs.declared.policy.script_rule.ScriptRule.{ScriptRule}
 use Rattle.server_program.specs.Factories.{replay_builder, replay_site}
-use Rattle.server_program.proofs.Creating.{all_parts, echo_upgrades, echoes_by, leaves_from, no_part, policed_ready, ready_from, refuses_from, serves_from}
+use Rattle.server_program.proofs.Creating.{all_parts, echo_upgrades, echoes_by, leaves_from, no_part, refuses_from, serves_from}
 use Rattle.server_program.proofs.Policing.{expect_function, policed_function}
 use Rattle.server_program.proofs.replay_factory.ReplayFactoryServerServiceFactory.create.Goals as goal
 
@@ -53,7 +55,7 @@ returns g c =
           (rw (c.over.ensures.limits, c.over.ensures.keep_alive, c.over.ensures.upgrade) refl)
           (λ asked handed h. echoes_by f.upgrade _ _ c.over.ensures.upgrade h);
       readies = λ answer ready. ready_from _ _ _ f.upgrade answer ready
-          (policed_ready ghosts _ (wrapped f.service) (λ answer p. p))
+          (policed_ready response_of_fault ghosts _ (wrapped f.service) (λ answer p. p))
           (λ answer p. p) (λ v answer p. p);
       inits = λ error fails. refuses_from (replay_builder self) _ _ _ _ _ error fails
           (λ e p. elim p [

@@ -1,0 +1,4 @@
+use Rattle.http_service_tests.proofs.serving.ends.Given as goal
+
+abbrev pub invariant-loop : goal.invariant-loop
+invariant-loop g l = g.F.Future.can_poll l.future
