@@ -1,108 +1,59 @@
-//! Serves a connection by a handler of its own, under a policy on other origins, and prints what was answered.
+//! Answers a request by a handler of its own, under a policy on other origins, and prints the answer.
 #![tactic(auto)]
 
-ghost use Rattle.std.specs.Prelude.{None, IsSome};
+ghost use Rattle.std.specs.Prelude.{IsSome};
 
 use command_line::print;
-use cors_answer::{Cors, CorsFault, CorsInitError};
+use cors_answer::Cors;
+use cors_policy::NoRule;
 use futures::executor::block_on;
 use http_service::HttpService;
-use http1_plain::{ErrorResponse, Request, Response};
+use http1_plain::{Request, Response};
 use server_run::{MemoryLink, ReadStep};
-use service_core::{Octets, Peer, Ready, Service, ServiceFactory, apply, err, fn_service, ok};
+use service_core::{Octets, Peer, Ready, Service, ServiceFactory, apply, fn_service, ready};
 use std::alloc::{AllocError, AllocGlobal, Global};
 use std::process::ExitCode;
+use std::random::RandomSource;
+use std::sync::Wait;
 use std::time::Duration;
 
-/// There is no greeting, since memory ran out.
-#[derive(Drop)]
-struct NoGreeting;
-
-impl ErrorResponse for NoGreeting {
-    ghost response = { λ _. None };
-
-    fn into_response(self, _alloc: Global) -> Result<Response, AllocError> {
-        Err(AllocError)
-    }
-}
-
 // The handler.
-fn greet(request: Request) -> Ready<Result<Response, NoGreeting>>
+fn greet(request: Request) -> Ready<Result<Response, AllocError>>
     ensures { IsSome result.value }
 {
-    match Response::text(request.head.target.allocator(), 200, "Hello!") {
-        Ok(response) => ok(response),
-        Err(_) => err(NoGreeting),
-    }
+    ready(Response::text(request.head.target.allocator(), 200, "Hello!"))
 }
 
-// A connection in memory, with one request.
+// A connection in memory, on which one request comes.
 fn link(alloc: Global) -> Result<MemoryLink, AllocError> {
-    let request = b"GET / HTTP/1.1\r\nHost: greeter\r\nOrigin: https://shop.example\r\n\r\n";
-    let reads = vec![in alloc; ReadStep::Give(Octets::of(alloc, request)?)]?;
+    let request = Octets::of(
+        alloc,
+        b"GET / HTTP/1.1\r\nOrigin: https://shop.example\r\n\r\n",
+    )?;
+    let reads = vec![in alloc; ReadStep::Give(request)]?;
     Ok(MemoryLink::new(alloc, 0, Peer::Local, reads, Vec::new(alloc)))
 }
 
-// Serves the connection by what stands under the policy.
-fn answered<P>(rt: &HostRuntime, policed: P) -> Result<String, AllocError>
-where
-    P: ServiceFactory<
-        Request,
-        Config = (),
-        Response = Response,
-        Error = CorsFault,
-        InitError = CorsInitError,
-        Service: Drop,
-    >
-        + Drop,
-    requires { P.can_make policed }
-{
+// What the handler under a policy writes on the connection.
+fn served<R: Wait + RandomSource + AllocGlobal>(rt: &R) -> Result<String, AllocError> {
+    let cors: Cors<NoRule> = Cors::default(rt.alloc()).allowed_origin("https://shop.example")?;
+    let handler = apply(rt.alloc(), cors, fn_service(rt.alloc(), greet)?)?;
     let connections = HttpService::build(rt.alloc())
         .keep_alive(Duration::from_secs(75))
-        .finish(policed)
+        .finish(handler)
         .tcp();
-    let Ok(Ok(handler)) = block_on(rt, connections.new_service(())) else {
+    let Ok(Ok(service)) = block_on(rt, connections.new_service(())) else {
         return Err(AllocError);
     };
-    match block_on(rt, handler.call(link(rt.alloc())?)) {
-        Ok(Ok(ended)) => String::from_utf8_lossy(rt.alloc(), ended.link.written()),
-        _ => Err(AllocError),
-    }
-}
-
-// Puts the handler under the policy.
-fn policed<F>(rt: &HostRuntime, handler: F) -> Result<String, AllocError>
-where
-    F: ServiceFactory<
-        Request,
-        Config = (),
-        Response = Response,
-        Error = NoGreeting,
-        InitError = AllocError,
-        Service: Drop,
-    >
-        + Drop,
-    requires { F.can_make handler }
-{
-    let cors = Cors::default(rt.alloc()).allowed_origin("https://shop.example")?;
-    match apply(rt.alloc(), cors, handler) {
-        Ok(policed) => answered(rt, policed),
-        Err(_) => Err(AllocError),
-    }
-}
-
-// Makes the handler's factory, and serves.
-fn served(rt: &HostRuntime) -> Result<String, AllocError> {
-    match fn_service(rt.alloc(), greet) {
-        Ok(handler) => policed(rt, handler),
-        Err(_) => Err(AllocError),
-    }
+    let Ok(Ok(ended)) = block_on(rt, service.call(link(rt.alloc())?)) else {
+        return Err(AllocError);
+    };
+    String::from_utf8_lossy(rt.alloc(), ended.link.written())
 }
 
 fn main(rt: HostRuntime) -> ExitCode {
-    let status = match served(&rt) {
+    ExitCode::from(match served(&rt) {
         Ok(answer) => print(&rt, answer.trim_end(), 0),
         Err(AllocError) => print(&rt, "out of memory", 7),
-    };
-    ExitCode::from(status)
+    })
 }
