@@ -69,14 +69,21 @@ pub(crate) fn parts(alloc: Global, making: Moods, readiness: Moods) -> Parts
     service.tcp()
 }
 
+// Which part was not made.
+fn of_init(fault: &HttpInitError<Fault, Fault, Fault>) -> Result<First, AllocError> {
+    match fault {
+        HttpInitError::Expect(_) => Ok(First::Expect),
+        HttpInitError::Upgrade(_) => Ok(First::Upgrade),
+        HttpInitError::Service(_) => Ok(First::Service),
+        HttpInitError::Memory => Err(AllocError),
+    }
+}
+
 // What came of a making.
 fn of_making<S>(made: &Result<S, HttpInitError<Fault, Fault, Fault>>) -> Result<First, AllocError> {
     match made {
         Ok(_) => Ok(First::Done),
-        Err(HttpInitError::Expect(_)) => Ok(First::Expect),
-        Err(HttpInitError::Upgrade(_)) => Ok(First::Upgrade),
-        Err(HttpInitError::Service(_)) => Ok(First::Service),
-        Err(HttpInitError::Memory) => Err(AllocError),
+        Err(fault) => of_init(fault),
     }
 }
 
@@ -122,6 +129,24 @@ impl<S: Service<MemoryLink> + Drop> Future for Asked<S> {
     }
 }
 
+// What a part errs by that is not ready.
+fn of_fault(fault: &ReadyFault<Fault, Fault, Never>) -> First {
+    match fault {
+        ReadyFault::Expect(_) => First::Expect,
+        ReadyFault::Upgrade(_) => First::Upgrade,
+        ReadyFault::Service(_) => First::Service,
+    }
+}
+
+// The same of an error of the whole.
+fn of_error(error: &DispatchError<MemoryLink, Fault, Fault, Never>) -> First {
+    match error {
+        DispatchError::Service(fault) => of_fault(fault),
+        // (no connection is there yet that could speak another protocol)
+        DispatchError::UnsupportedProtocol(_, _) => First::Waits,
+    }
+}
+
 // What came of a question whether a service is ready.
 fn of_readiness(
     answer: &Poll<Result<(), DispatchError<MemoryLink, Fault, Fault, Never>>>,
@@ -129,11 +154,7 @@ fn of_readiness(
     match answer {
         Poll::Pending => First::Waits,
         Poll::Ready(Ok(())) => First::Done,
-        Poll::Ready(Err(DispatchError::Service(ReadyFault::Expect(_)))) => First::Expect,
-        Poll::Ready(Err(DispatchError::Service(ReadyFault::Upgrade(_)))) => First::Upgrade,
-        Poll::Ready(Err(DispatchError::Service(ReadyFault::Service(_)))) => First::Service,
-        // (no connection is there yet that could speak another protocol)
-        Poll::Ready(Err(DispatchError::UnsupportedProtocol(_, _))) => First::Waits,
+        Poll::Ready(Err(error)) => of_error(error),
     }
 }
 

@@ -107,15 +107,10 @@ fn is_untouched(link: &MemoryLink) -> bool {
 }
 
 // Whether the protocol was refused, and the link came back.
-fn is_refused<E, XE, UE>(
-    given: &Poll<Result<Ended<MemoryLink>, DispatchError<MemoryLink, E, XE, UE>>>,
-    protocol: Protocol,
-) -> bool {
-    match given {
-        Poll::Ready(Err(DispatchError::UnsupportedProtocol(told, link))) => {
-            *told == protocol && is_untouched(link)
-        }
-        _ => false,
+fn is_refused<E, XE, UE>(error: &DispatchError<MemoryLink, E, XE, UE>, protocol: Protocol) -> bool {
+    match error {
+        DispatchError::UnsupportedProtocol(told, link) => *told == protocol && is_untouched(link),
+        DispatchError::Service(_) => false,
     }
 }
 
@@ -132,8 +127,10 @@ where
     UE: Drop,
     requires { S.can_call service.now }
 {
-    let given = task.poll(&mut service.call((link, protocol, Peer::Local)));
-    is_refused(&given, protocol)
+    match task.poll(&mut service.call((link, protocol, Peer::Local))) {
+        Poll::Ready(Err(error)) => is_refused(&error, protocol),
+        _ => false,
+    }
 }
 
 /// The same of a service of the factory.

@@ -1,4 +1,6 @@
 //! Connections that are served by each form of a service.
+ghost use Rattle.std.specs.Prelude.{◌≡◌, None};
+
 use crate::hello::Hello;
 use crate::making::{FINE, parts};
 use crate::serving::{
@@ -13,34 +15,46 @@ use service_core::{How, Peer};
 use std::alloc::{AllocError, AllocGlobal, Global};
 use std::test::Fail;
 
-// Whether this is written in answer by each form of the service.
-fn each_form_serves(task: &MockTask, alloc: Global) -> Result<bool, AllocError> {
-    let asked = (link(alloc, GET)?, Protocol::Http1, Peer::Local);
-    if !serves_through(task, &hello(alloc), asked, How::Served, HELLO)? {
-        return Ok(false);
-    }
-    let h1 = HttpService::build(alloc).h1(Hello::new(alloc));
-    let asked = (link(alloc, GET)?, Peer::Local);
-    if !serves_through(task, &h1, asked, How::Served, HELLO)? {
-        return Ok(false);
-    }
-    let asked = link(alloc, GET)?;
-    if !serves_through(task, &h1.tcp(), asked, How::Served, HELLO)? {
-        return Ok(false);
-    }
-    serves_through(
-        task,
-        &hello(alloc).tcp(),
-        link(alloc, GET)?,
-        How::Served,
-        HELLO,
-    )
+// A factory of handlers of links.
+type Links = HttpTcpFactory<MemoryLink, Hello>;
+
+// Whether a service of the factory answers these bytes so, and has served the link then.
+fn answers(
+    task: &MockTask,
+    alloc: Global,
+    factory: &Links,
+    bytes: &[u8],
+    text: &[u8],
+) -> Result<bool, AllocError>
+    requires { factory.now.upgrade ≡ None }
+{
+    serves_through(task, factory, link(alloc, bytes)?, How::Served, text)
 }
 
 #[test]
-fn each_form_of_a_service_answers_a_request(rt: HostRuntime) -> Result<(), Fail> {
+fn a_link_is_answered(rt: HostRuntime) -> Result<(), Fail> {
     let task = MockTask::new(&rt)?;
-    assert!(rt; each_form_serves(&task, rt.alloc())?);
+    let alloc = rt.alloc();
+    assert!(rt; answers(&task, alloc, &hello(alloc).tcp(), GET, HELLO)?);
+    Ok(())
+}
+
+#[test]
+fn a_connection_that_says_what_it_speaks_is_answered(rt: HostRuntime) -> Result<(), Fail> {
+    let task = MockTask::new(&rt)?;
+    let alloc = rt.alloc();
+    let asked = (link(alloc, GET)?, Protocol::Http1, Peer::Local);
+    assert!(rt; serves_through(&task, &hello(alloc), asked, How::Served, HELLO)?);
+    Ok(())
+}
+
+#[test]
+fn a_connection_of_http_1_is_answered(rt: HostRuntime) -> Result<(), Fail> {
+    let task = MockTask::new(&rt)?;
+    let alloc = rt.alloc();
+    let service = HttpService::build(alloc).h1(Hello::new(alloc));
+    let asked = (link(alloc, GET)?, Peer::Local);
+    assert!(rt; serves_through(&task, &service, asked, How::Served, HELLO)?);
     Ok(())
 }
 
@@ -55,19 +69,12 @@ fn a_link_that_speaks_another_protocol_comes_back(rt: HostRuntime) -> Result<(),
     Ok(())
 }
 
-// Whether the link comes back from the future of a connection that waits, by each form of the service.
-fn each_form_hands_back(task: &MockTask, alloc: Global) -> Result<bool, AllocError> {
-    let asked = (silent_link(alloc)?, Protocol::Http1, Peer::Local);
-    Ok(
-        hands_back_through(task, &hello(alloc), asked)?
-            && hands_back_through(task, &hello(alloc).tcp(), silent_link(alloc)?)?,
-    )
-}
-
 #[test]
 fn a_link_can_be_taken_back_while_it_waits(rt: HostRuntime) -> Result<(), Fail> {
     let task = MockTask::new(&rt)?;
-    assert!(rt; each_form_hands_back(&task, rt.alloc())?);
+    let alloc = rt.alloc();
+    let asked = (silent_link(alloc)?, Protocol::Http1, Peer::Local);
+    assert!(rt; hands_back_through(&task, &hello(alloc), asked)?);
     Ok(())
 }
 
@@ -81,11 +88,11 @@ const CLOSING: &[u8] = b"HTTP/1.1 200 OK\r\ncontent-length: 5\r\nconnection: clo
 fn a_service_with_no_keep_alive_answers_once(rt: HostRuntime) -> Result<(), Fail> {
     let task = MockTask::new(&rt)?;
     let alloc = rt.alloc();
-    let once: HttpTcpFactory<MemoryLink, Hello> = HttpService::build(alloc)
+    let once: Links = HttpService::build(alloc)
         .keep_alive(KeepAlive::Disabled)
         .finish(Hello::new(alloc))
         .tcp();
-    assert!(rt; serves_through(&task, &once, link(alloc, GETS)?, How::Served, CLOSING)?);
+    assert!(rt; answers(&task, alloc, &once, GETS, CLOSING)?);
     Ok(())
 }
 
@@ -100,11 +107,11 @@ const TOO_LARGE: &[u8] =
 fn a_service_keeps_its_limits(rt: HostRuntime) -> Result<(), Fail> {
     let task = MockTask::new(&rt)?;
     let alloc = rt.alloc();
-    let small: HttpTcpFactory<MemoryLink, Hello> = HttpService::build(alloc)
+    let small: Links = HttpService::build(alloc)
         .limits(Limits::new(64, 4))
         .finish(Hello::new(alloc))
         .tcp();
-    assert!(rt; serves_through(&task, &small, link(alloc, POST)?, How::Served, TOO_LARGE)?);
+    assert!(rt; answers(&task, alloc, &small, POST, TOO_LARGE)?);
     Ok(())
 }
 
@@ -117,20 +124,28 @@ const CONTINUED: &[u8] =
 // A request for another protocol.
 const UPGRADE: &[u8] = b"GET /a HTTP/1.1\r\nConnection: Upgrade\r\nUpgrade: x\r\n\r\nabc";
 
+// How a service of three parts ends a link with these bytes.
+fn three_answer(
+    task: &MockTask,
+    alloc: Global,
+    bytes: &[u8],
+    how: How,
+    text: &[u8],
+) -> Result<bool, AllocError> {
+    serves_through(
+        task,
+        &parts(alloc, FINE, FINE),
+        link(alloc, bytes)?,
+        how,
+        text,
+    )
+}
+
 #[test]
 fn a_service_asks_its_expect_service_and_its_upgrade_service(rt: HostRuntime) -> Result<(), Fail> {
     let task = MockTask::new(&rt)?;
     let alloc = rt.alloc();
-    let factory = parts(alloc, FINE, FINE);
-    assert!(rt;
-        serves_through(
-            &task,
-            &factory,
-            link(alloc, AWAITED)?,
-            How::Served,
-            CONTINUED
-        )?
-    );
-    assert!(rt; serves_through(&task, &factory, link(alloc, UPGRADE)?, How::Upgraded, b"")?);
+    assert!(rt; three_answer(&task, alloc, AWAITED, How::Served, CONTINUED)?);
+    assert!(rt; three_answer(&task, alloc, UPGRADE, How::Upgraded, b"")?);
     Ok(())
 }

@@ -8,8 +8,7 @@ use crate::mood::{Fault, Mood};
 use futures::task::{Context, Poll};
 use http_flow::{Framed, Handed, Never, UpgradeHandler, UpgradeHandlerFuture};
 use http1_plain::Request;
-use server_run::MemoryLink;
-use service_core::{Service, ServiceFactory};
+use service_core::{Link, Service, ServiceFactory};
 
 /// Hands each link back as `UpgradeHandler` does. It is the factory of such services too.
 #[derive(Clone, Copy)]
@@ -18,12 +17,12 @@ pub(crate) struct Switch {
     pub(crate) readiness: Mood,
 }
 
-impl Service<(Request, Framed<MemoryLink>)> for Switch {
-    type Response = Handed<MemoryLink>;
+impl<L: Link> Service<(Request, Framed<L>)> for Switch {
+    type Response = Handed<L>;
 
     type Error = Never;
 
-    type Future = UpgradeHandlerFuture<MemoryLink>;
+    type Future = UpgradeHandlerFuture<L>;
 
     ghost may = { λ _ asked r. r ≡ Ok (as_given asked) };
 
@@ -41,13 +40,13 @@ impl Service<(Request, Framed<MemoryLink>)> for Switch {
         }
     }
 
-    fn call(&self, asked: (Request, Framed<MemoryLink>)) -> UpgradeHandlerFuture<MemoryLink> {
+    fn call(&self, asked: (Request, Framed<L>)) -> UpgradeHandlerFuture<L> {
         UpgradeHandler.call(asked)
     }
 }
 
-impl ServiceFactory<(Request, Framed<MemoryLink>)> for Switch {
-    type Response = Handed<MemoryLink>;
+impl<L: Link> ServiceFactory<(Request, Framed<L>)> for Switch {
+    type Response = Handed<L>;
 
     type Error = Never;
 

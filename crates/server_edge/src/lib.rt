@@ -1,0 +1,11 @@
+//! The edge of the server: real threads and the system's clock.
+#![tactic(auto)]
+
+mod script_spawner;
+mod seats;
+mod system_clock;
+mod thread_spawner;
+
+pub use script_spawner::ScriptSpawner;
+pub use system_clock::SystemClock;
+pub use thread_spawner::ThreadSpawner;

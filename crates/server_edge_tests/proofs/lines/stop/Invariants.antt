@@ -1,0 +1,5 @@
+use Rattle.server_edge_tests.specs.Lines.{KeepsLine}
+use Rattle.server_edge_tests.proofs.lines.stop.Given as goal
+
+abbrev pub invariant-loop : goal.invariant-loop
+invariant-loop l = KeepsLine l.fn.line l.line

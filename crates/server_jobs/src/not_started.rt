@@ -1,0 +1,3 @@
+/// No thread was started.
+#[derive(Clone, Copy, Debug, PartialEq, Eq, Drop)]
+pub struct NotStarted;
