@@ -61,8 +61,7 @@ where
 // The same, by the handler under a policy.
 fn served<R: Wait + RandomSource + AllocGlobal>(rt: &R) -> Result<String, AllocError> {
     let cors: Cors<NoRule> = Cors::default(rt.alloc()).allowed_origin("https://shop.example")?;
-    let handler = apply(rt.alloc(), cors, fn_service(rt.alloc(), greet)?)?;
-    written(rt, handler)
+    written(rt, apply(rt.alloc(), cors, fn_service(rt.alloc(), greet)?)?)
 }
 
 fn main(rt: HostRuntime) -> ExitCode {

@@ -1,20 +1,18 @@
 ghost use Rattle.std.specs.Prelude.{◌≡◌, IfOk};
 ghost use Rattle.server_edge.specs.Counting.{IsFresh};
 
-use crate::seats::Seats;
+use crate::thread_spawner::ThreadSpawner;
 use server_jobs::{Seat, Spawner};
 use server_run::Host;
 use std::alloc::{AllocError, Global};
 
-/// Starts each job in a thread of its own, except for the starts whose numbers are listed, counted from 0. It is for tests.
+/// Starts jobs as a `ThreadSpawner` does, except for the starts whose numbers are listed, counted from 0. It is for tests.
 #[derive(Drop)]
 pub struct ScriptSpawner {
-    seats: Seats,
+    threads: ThreadSpawner,
     refused: Vec<u64>,
     // How many starts were asked for.
     asked: u64,
-    starts: u64,
-    refusals: u64,
 }
 
 impl ScriptSpawner {
@@ -23,59 +21,42 @@ impl ScriptSpawner {
         ensures { IfOk result (IsFresh ⟦<ScriptSpawner as Spawner>⟧.starts ⟦<ScriptSpawner as Spawner>⟧.refusals) }
     {
         Ok(ScriptSpawner {
-            seats: Seats::new(alloc)?,
+            threads: ThreadSpawner::new(alloc)?,
             refused,
             asked: 0,
-            starts: 0,
-            refusals: 0,
         })
-    }
-
-    // The seat of the start that is asked for, unless it is to be refused or memory ran out.
-    fn next_seat(&mut self) -> Option<Seat>
-        ensures starts { self.new.starts ≡ self.old.starts }
-        ensures refusals { self.new.refusals ≡ self.old.refusals }
-    {
-        let number = self.asked;
-        self.asked = number.saturating_add(1);
-        if self.refused.contains(&number) {
-            return None;
-        }
-        self.seats.add().ok()
     }
 }
 
 impl Spawner for ScriptSpawner {
-    ghost starts = { λ spawner. spawner.starts };
+    ghost starts = { λ spawner. ⟦<ThreadSpawner as Spawner>⟧.starts spawner.threads };
 
-    ghost refusals = { λ spawner. spawner.refusals };
+    ghost refusals = { λ spawner. ⟦<ThreadSpawner as Spawner>⟧.refusals spawner.threads };
 
     /// It is refused where the number is listed, or for want of memory.
     fn seat(&mut self) -> Option<Seat> {
-        match self.next_seat() {
-            Some(seat) => Some(seat),
-            None => {
-                self.refusals = self.refusals.saturating_add(1);
-                None
-            }
+        let number = self.asked;
+        self.asked = number.saturating_add(1);
+        if self.refused.contains(&number) {
+            self.threads.count_refusal();
+            return None;
         }
+        self.threads.seat()
     }
 
     fn count_start(&mut self) {
-        self.starts = self.starts.saturating_add(1);
+        self.threads.count_start();
     }
 
     fn count_refusal(&mut self) {
-        self.refusals = self.refusals.saturating_add(1);
+        self.threads.count_refusal();
     }
 
     fn rest<Ho: Host>(&mut self, rt: &Ho, busy: bool) {
-        if !busy {
-            self.seats.rest(rt);
-        }
+        self.threads.rest(rt, busy);
     }
 
     fn ring(&mut self, number: usize) {
-        self.seats.ring(number);
+        self.threads.ring(number);
     }
 }
