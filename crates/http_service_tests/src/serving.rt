@@ -161,12 +161,19 @@ where
 }
 
 // Whether the future waits at its first poll, and hands the link back then.
-fn hands_back<F>(task: &MockTask, mut future: F) -> bool
+fn hands_back<F, E>(task: &MockTask, mut future: F) -> Result<bool, AllocError>
 where
-    F: Future<Output: Drop> + LinkHolder<MemoryLink>,
+    F: Future<Output = Result<Ended<MemoryLink>, E>> + LinkHolder<MemoryLink>,
+    E: Drop,
     requires { F.can_poll future }
 {
-    task.poll(&mut future).is_pending() && is_untouched(&future.into_link())
+    match task.poll(&mut future) {
+        Poll::Pending => Ok(is_untouched(&future.into_link())),
+        Poll::Ready(given) => {
+            has_ended(&given, How::Served, b"")?;
+            Ok(false)
+        }
+    }
 }
 
 /// Whether the future of a connection on which nothing comes hands its link back.
@@ -188,7 +195,7 @@ where
     requires { M.can_make factory.now }
 {
     match task.poll(&mut factory.new_service(())) {
-        Poll::Ready(Ok(service)) => Ok(hands_back(task, service.call(asked))),
+        Poll::Ready(Ok(service)) => hands_back(task, service.call(asked)),
         _ => Err(AllocError),
     }
 }

@@ -52,11 +52,21 @@ impl Service<(Request, Framed<TestLink>)> for Switch {
     }
 }
 
-/// Hands the link back at once, or waits without end.
+/// Hands the link back at once, or waits without end where memory sufficed.
 #[derive(Drop)]
 pub(crate) struct Switching {
     handed: Option<Handed<TestLink>>,
     waits: bool,
+}
+
+impl Switching {
+    // Whether all bytes were written.
+    fn is_done(&self) -> bool {
+        match &self.handed {
+            Some(handed) => handed.end == HandedEnd::Done,
+            None => false,
+        }
+    }
 }
 
 impl Future for Switching {
@@ -67,7 +77,7 @@ impl Future for Switching {
     ghost gives = { λ f r. OfKept f.handed (λ handed. r ≡ Ok handed) };
 
     fn poll(&mut self, cx: &mut Context<'_>) -> Poll<Result<Handed<TestLink>, Never>> {
-        if self.waits {
+        if self.waits && self.is_done() {
             return cx.yield_now();
         }
         Poll::Ready(Ok(self.handed.take().unwrap()))
