@@ -1,6 +1,8 @@
-ghost use Rattle.std.specs.Prelude.{◌≡◌, ◌++◌, ◌<◌, IfOk, OnOk};
+ghost use Rattle.std.specs.Prelude.{◌≡◌, ◌&&◌, ◌++◌, ◌<◌, IfOk, OnOk};
 ghost use Rattle.http1_grammar.specs.Reading.{IsRefusal};
+ghost use Rattle.http1_grammar.specs.Tokens.{upgrades};
 ghost use Rattle.http1_grammar.specs.Wire.{refusal};
+ghost use Rattle.http1_plain.specs.Views.{view};
 ghost use Rattle.http1_dispatcher.specs.Progress.{IsPlaced};
 ghost use Rattle.http1_dispatcher.specs.Steps.{Begins, IsAwaiting, IsCallOf, IsHeaded, IsOpen};
 ghost use Rattle.http1_dispatcher.specs.declared.exchange.Stage.TheVariants.{Closing, Reading};
@@ -39,6 +41,14 @@ fn refuse(exchange: &mut Exchange, status: u16) -> Result<(), AllocError>
     Ok(())
 }
 
+// Whether another protocol takes the link over behind this head. Where none may, the head is not
+// looked at.
+fn is_upgrade(head: &RequestHead, rules: Rules) -> bool
+    ensures { result ≡ (upgrades (view head.now) && rules.has_upgrade) }
+{
+    rules.has_upgrade && upgrades(head)
+}
+
 // Goes on as the head asks: to another protocol, to the expect service, or to its body.
 fn take_head(
     exchange: &mut Exchange,
@@ -51,7 +61,7 @@ fn take_head(
     ensures reader { exchange.new.reader ≡ exchange.old.reader }
     ensures out { exchange.new.out ≡ exchange.old.out }
 {
-    if upgrades(&head) && rules.has_upgrade {
+    if is_upgrade(&head, rules) {
         exchange.stage = Stage::Upgrading { head };
         return Ok(Begun::On);
     }

@@ -1,24 +1,26 @@
-ghost use Rattle.std.specs.Prelude.{◌≡◌, IfOk};
+ghost use Rattle.std.specs.Prelude.{◌≡◌};
 
 use server_jobs::Clock;
-use std::io;
 use std::time::{Clock as TimeSource, Instant};
 
-/// The system's clock: milliseconds since it was made.
+/// The system's clock: milliseconds since it was first asked.
 #[derive(Drop)]
 pub struct SystemClock<R> {
     rt: R,
-    start: Instant,
+    start: Option<Instant>,
     told: u64,
 }
 
 impl<R: TimeSource + Drop> SystemClock<R> {
-    /// It stands at 0. It errs where the system tells no time.
-    pub fn new(rt: R) -> io::Result<SystemClock<R>>
-        ensures { IfOk result (λ clock. ⟦<SystemClock<R> as Clock>⟧.told clock ≡ 0) }
+    /// It stands at 0.
+    pub fn new(rt: R) -> SystemClock<R>
+        ensures { ⟦<SystemClock<R> as Clock>⟧.told result ≡ 0 }
     {
-        let start = Instant::now(&rt)?;
-        Ok(SystemClock { rt, start, told: 0 })
+        SystemClock {
+            rt,
+            start: None,
+            told: 0,
+        }
     }
 }
 
@@ -27,9 +29,14 @@ impl<R: TimeSource + Drop> Clock for SystemClock<R> {
 
     /// Where the system tells no time, or an earlier one, it is the last answer.
     fn now(&mut self) -> u64 {
-        if let Ok(passed) = self.start.elapsed(&self.rt) {
-            let millis = u64::try_from(passed.as_millis()).unwrap_or(u64::MAX);
-            self.told = self.told.max(millis);
+        match self.start {
+            None => self.start = Instant::now(&self.rt).ok(),
+            Some(start) => {
+                if let Ok(passed) = start.elapsed(&self.rt) {
+                    let millis = u64::try_from(passed.as_millis()).unwrap_or(u64::MAX);
+                    self.told = self.told.max(millis);
+                }
+            }
         }
         self.told
     }

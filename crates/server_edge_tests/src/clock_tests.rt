@@ -23,7 +23,7 @@ fn goes_on<R: TimeSource, C: Clock>(rt: &R, clock: &mut C) -> bool {
 
 #[test]
 fn the_system_clock_goes_on(rt: HostRuntime) -> Result<(), Fail> {
-    let mut clock = SystemClock::new(rt.clone()?)?;
+    let mut clock = SystemClock::new(rt.clone()?);
     assert!(rt; goes_on(&rt, &mut clock));
     Ok(())
 }

@@ -8,4 +8,6 @@ mod ferry;
 #[cfg(test)]
 mod lines;
 #[cfg(test)]
+mod numbered;
+#[cfg(test)]
 mod thread_tests;

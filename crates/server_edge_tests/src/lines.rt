@@ -123,7 +123,7 @@ fn go_on(alloc: Global, line: &mut FerryLine, crossing: &mut Crossing) -> bool
     crossing.arrive(note)
 }
 
-/// Lets all of them cross, if they do within some seconds.
+/// Lets all of them cross, if they do within so many looks, of 10 ms at most.
 #[tactic(auto, using(crate::proofs::LineSteps::keeps_none, crate::proofs::LineSteps::keeps_more))]
 pub(crate) fn cross<Ho: Host, Sp: Spawner>(
     rt: &Ho,
@@ -134,7 +134,7 @@ pub(crate) fn cross<Ho: Host, Sp: Spawner>(
 )
     ensures { KeepsLine line.old line.new }
 {
-    for _ in 0..100_000_u32 {
+    for _ in 0..10_000_u32 {
         if crossing.came >= crossing.count {
             return;
         }

@@ -1,5 +1,6 @@
 //! Jobs on threads of their own.
 use crate::lines::{Crossing, cross, lands, started};
+use crate::numbered::Numbered;
 use server_edge::{ScriptSpawner, ThreadSpawner};
 use server_jobs::Spawner;
 use server_run::Host;
@@ -81,5 +82,27 @@ fn a_listed_start_is_refused_and_the_next_is_not(rt: HostRuntime) -> Result<(), 
     let mut spawner = ScriptSpawner::new(alloc, vec![in alloc; 0]?)?;
     assert!(rt; is_refused(&rt, &mut spawner, alloc)?);
     assert!(rt; come_back(&rt, &mut spawner, alloc, 3)?);
+    Ok(())
+}
+
+// The number that the next job tells of itself, where it is the one that its starter knows.
+fn next_number<Ho: Host + 'static, Sp: Spawner>(rt: &Ho, spawner: &mut Sp) -> Option<usize> {
+    let running = spawner.start(rt, Numbered).ok()?;
+    let number = running.number();
+    let told = running.join(rt);
+    if told == number { Some(told) } else { None }
+}
+
+// Whether the first jobs are told apart by their numbers, from 0 on.
+fn are_numbered<Ho: Host + 'static, Sp: Spawner>(rt: &Ho, spawner: &mut Sp) -> bool {
+    next_number(rt, spawner) == Some(0)
+        && next_number(rt, spawner) == Some(1)
+        && next_number(rt, spawner) == Some(2)
+}
+
+#[test]
+fn jobs_are_numbered_as_they_are_started(rt: HostRuntime) -> Result<(), Fail> {
+    let mut spawner = ThreadSpawner::new(rt.alloc())?;
+    assert!(rt; are_numbered(&rt, &mut spawner));
     Ok(())
 }
