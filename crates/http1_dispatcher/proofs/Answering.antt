@@ -20,7 +20,7 @@ use Rattle.http1_plain.specs.declared.request_head.RequestHead.{RequestHead}
 use Rattle.service_core.specs.declared.peer.Peer.{Peer}
 use Rattle.http1_dispatcher.specs.Requests.{Functions, MayCome, settings_of, served}
 use Rattle.http1_dispatcher.specs.Progress.{answered, owed_behind, owed_expected, Stands, IsPlaced}
-use Rattle.http1_dispatcher.specs.Steps.{Begins, IsAwaiting, IsCallOf, IsCallWith, IsHeaded, reply_to}
+use Rattle.http1_dispatcher.specs.Steps.{Begins, IsAwaiting, BeginsHead, IsCallWith, IsHeaded, awaiting, reply_to}
 use Rattle.http1_dispatcher.specs.declared.begin.Begun.{Begun}
 use Rattle.http1_dispatcher.specs.declared.begin.Begun.TheVariants.{NeedMore, On, Asked, Called}
 use Rattle.http1_dispatcher.specs.declared.exchange.Exchange.{Exchange}
@@ -206,6 +206,14 @@ served_waits rules peer f r p l at e =
     served_nothing rules peer f r.unread p
     (ap (λ (x : Limits). next x r.unread) (sym l) ∙ nothing_is (next r.limits r.unread) (sym e ∙ head_decides r at))
 
+-- what begins at a stage that was begun
+begins_through : (rules : Rules) (peer : Peer) (old middle new : Exchange) (begun : Begun)
+    → Begins rules peer old middle On → Begins rules peer middle new begun → Begins rules peer old new begun
+begins_through rules peer old middle new NeedMore a b = (λ f more. b.0 f more ∙ a.0 f more, b.1, b.2)
+begins_through rules peer old middle new On a b = (λ f more. b.0 f more ∙ a.0 f more, b.1, b.2, omega (arith, a.3, b.3))
+begins_through rules peer old middle new (Asked request) a b = (λ f more. b.0 f more ∙ a.0 f more, b.1, b.2, omega (arith, a.3, b.3))
+begins_through rules peer old middle new (Called request) a b = (λ f more. b.0 f more ∙ a.0 f more, b.1, b.2, omega (arith, a.3, b.3))
+
 -- ---- at a head
 
 module _ (rules : Rules) (peer : Peer) (old : Exchange) (reader : Reading) (at : old.stage ≡ stage.Reading) (placed : IsPlaced rules old)
@@ -219,73 +227,81 @@ module _ (rules : Rules) (peer : Peer) (old : Exchange) (reader : Reading) (at :
   pub no_body_here : (data' : List ℕ) → a_body data' reader.unread ≡ decision old.reader → ⊥
   no_body_here data' d = no_body (next rules.limits old.reader.unread) data' reader.unread (d ∙ decides)
 
-  pub head_begins : (head : RequestHead) (new : Exchange) (begun : Begun) → a_head (view head) reader.unread ≡ decision old.reader
-      → IsHeaded rules peer head new.stage begun → new.reader ≡ reader → new.out ≡ old.out → Begins rules peer old new begun
-  head_begins head new begun d headed_is r o = by new.stage begun refl headed_is
-    where
-      is_found : next rules.limits old.reader.unread ≡ found (view head) reader.unread
-      is_found = head_is (next rules.limits old.reader.unread) (view head) reader.unread (d ∙ decides)
+  module _ (head : RequestHead) (d : a_head (view head) reader.unread ≡ decision old.reader) where
+    behind_head : reader ≡ behind old.reader (a_head (view head) reader.unread)
+    behind_head = leaves ∙ ap (behind old.reader) (sym d)
 
-      behind_head : reader ≡ behind old.reader (a_head (view head) reader.unread)
-      behind_head = leaves ∙ ap (behind old.reader) (sym d)
+    pub limits_behind : reader.limits ≡ rules.limits
+    limits_behind = ap (λ (r : Reading). r.limits) behind_head ∙ placed.limits_are
 
-      limits_is : reader.limits ≡ rules.limits
-      limits_is = ap (λ (r : Reading). r.limits) behind_head ∙ placed.limits_are
+    pub body_behind : IsAtBody reader.stage
+    body_behind = subst (λ (r : Reading). IsAtBody r.stage) (sym behind_head) (head_follows old.reader (view head) reader.unread (sym d)).1
 
-      stands_at_body : IsAtBody reader.stage
-      stands_at_body = subst (λ (r : Reading). IsAtBody r.stage) (sym behind_head) (head_follows old.reader (view head) reader.unread (sym d)).1
+    head_leads : (new : Exchange) (begun : Begun)
+        → IsHeaded rules peer head new.stage begun → new.reader ≡ reader → new.out ≡ old.out → Begins rules peer old new begun
+    head_leads new begun headed_is r o = by new.stage begun refl headed_is
+      where
+        is_found : next rules.limits old.reader.unread ≡ found (view head) reader.unread
+        is_found = head_is (next rules.limits old.reader.unread) (view head) reader.unread (d ∙ decides)
 
-      reads : (more : List ℕ) → decision (fed reader more) ≡ of_body (body rules.limits (view head) (reader.unread ++ more))
-      reads more =
-          ap (λ l. decision_at l reader.stage (reader.unread ++ more)) limits_is
-          ∙ ap (λ s. decision_at rules.limits s (reader.unread ++ more)) (ap (λ (r : Reading). r.stage) behind_head)
-          ∙ body_follows rules.limits (view head) (reader.unread ++ more)
+        reads : (more : List ℕ) → decision (fed reader more) ≡ of_body (body rules.limits (view head) (reader.unread ++ more))
+        reads more =
+            ap (λ l. decision_at l reader.stage (reader.unread ++ more)) limits_behind
+            ∙ ap (λ s. decision_at rules.limits s (reader.unread ++ more)) (ap (λ (r : Reading). r.stage) behind_head)
+            ∙ body_follows rules.limits (view head) (reader.unread ++ more)
 
-      goes : (f : Functions) (more : List ℕ) → served rules peer f (old.reader.unread ++ more)
-          ≡ on_head (settings_of rules f) (served rules peer f) peer (view head) (reader.unread ++ more)
-      goes f more =
-          served_found rules peer f (old.reader.unread ++ more) (reader.unread ++ more) (view head) positive
-          (stays rules.limits old.reader.unread more (found (view head) reader.unread) positive is_found (λ n. differ n))
-        where
-          differ : found (view head) reader.unread ≡ nothing → ⊥
-          differ k = cc
+        goes : (f : Functions) (more : List ℕ) → served rules peer f (old.reader.unread ++ more)
+            ≡ on_head (settings_of rules f) (served rules peer f) peer (view head) (reader.unread ++ more)
+        goes f more =
+            served_found rules peer f (old.reader.unread ++ more) (reader.unread ++ more) (view head) positive
+            (stays rules.limits old.reader.unread more (found (view head) reader.unread) positive is_found (λ n. differ n))
+          where
+            differ : found (view head) reader.unread ≡ nothing → ⊥
+            differ k = cc
 
-      shorter : length reader.unread < length old.reader.unread
-      shorter = found_shorter rules.limits old.reader.unread (view head) reader.unread positive is_found
+        shorter : length reader.unread < length old.reader.unread
+        shorter = found_shorter rules.limits old.reader.unread (view head) reader.unread positive is_found
 
-      by : (s : Stage) (b : Begun) → new.stage ≡ s → IsHeaded rules peer head s b → Begins rules peer old new b
-      by (stage.Upgrading other) On e h = (
-        λ f more. rw (r, o, e, at, h.1) (ap (after old.out) (sym (goes f more ∙ head_upgrades rules peer f (view head) (reader.unread ++ more) h.0))),
-        record { limits_are = rw r limits_is; stands = rw e (and_right_true (upgrades (view head)) rules.has_upgrade h.0) },
-        rw e tt,
-        rw (e, at) (omega arith),
-      )
-      by (stage.Asking request reply) (Asked asked) e h = (
-        λ f more. rw (r, o, e, at, h.2, h.3, h.4, reads more)
-            (ap (after old.out) (sym (goes f more ∙ head_asks rules peer f head (reader.unread ++ more) h.0 h.1))),
-        record { limits_are = rw r limits_is; stands = rw (e, r) stands_at_body },
-        rw e h.2,
-        rw (e, r, at) (omega (arith, shorter)),
-      )
-      by (stage.Awaiting other from reply) On e h = (
-        λ f more. rw (r, o, e, at, h.2, h.3, h.4, reads more)
-            (ap (after old.out) (sym (goes f more ∙ head_goes rules peer f head (reader.unread ++ more) h.0 h.1))),
-        record { limits_are = rw r limits_is; stands = rw (e, r) stands_at_body },
-        rw e tt,
-        rw (e, r, at) (omega (arith, shorter)),
-      )
-      by stage.Reading b e h = absurd h
-      by (stage.Asking request reply) NeedMore e h = absurd h
-      by (stage.Asking request reply) On e h = absurd h
-      by (stage.Asking request reply) (Called c) e h = absurd h
-      by (stage.Awaiting other from reply) NeedMore e h = absurd h
-      by (stage.Awaiting other from reply) (Asked c) e h = absurd h
-      by (stage.Awaiting other from reply) (Called c) e h = absurd h
-      by (stage.Calling request reply) b e h = absurd h
-      by (stage.Upgrading other) NeedMore e h = absurd h
-      by (stage.Upgrading other) (Asked c) e h = absurd h
-      by (stage.Upgrading other) (Called c) e h = absurd h
-      by stage.Closing b e h = absurd h
+        by : (s : Stage) (b : Begun) → new.stage ≡ s → IsHeaded rules peer head s b → Begins rules peer old new b
+        by (stage.Upgrading other) On e h = (
+          λ f more. rw (r, o, e, at, h.1) (ap (after old.out) (sym (goes f more ∙ head_upgrades rules peer f (view head) (reader.unread ++ more) h.0))),
+          record { limits_are = rw r limits_behind; stands = rw e (and_right_true (upgrades (view head)) rules.has_upgrade h.0) },
+          rw e tt,
+          rw (e, at) (omega arith),
+        )
+        by (stage.Asking request reply) (Asked asked) e h = (
+          λ f more. rw (r, o, e, at, h.2, h.3, h.4, reads more)
+              (ap (after old.out) (sym (goes f more ∙ head_asks rules peer f head (reader.unread ++ more) h.0 h.1))),
+          record { limits_are = rw r limits_behind; stands = rw (e, r) body_behind },
+          rw e h.2,
+          rw (e, r, at) (omega (arith, shorter)),
+        )
+        by (stage.Awaiting other from reply) On e h = (
+          λ f more. rw (r, o, e, at, h.2, h.3, h.4, reads more)
+              (ap (after old.out) (sym (goes f more ∙ head_goes rules peer f head (reader.unread ++ more) h.0 h.1))),
+          record { limits_are = rw r limits_behind; stands = rw (e, r) body_behind },
+          rw e tt,
+          rw (e, r, at) (omega (arith, shorter)),
+        )
+        by stage.Reading b e h = absurd h
+        by (stage.Asking request reply) NeedMore e h = absurd h
+        by (stage.Asking request reply) On e h = absurd h
+        by (stage.Asking request reply) (Called c) e h = absurd h
+        by (stage.Awaiting other from reply) NeedMore e h = absurd h
+        by (stage.Awaiting other from reply) (Asked c) e h = absurd h
+        by (stage.Awaiting other from reply) (Called c) e h = absurd h
+        by (stage.Calling request reply) b e h = absurd h
+        by (stage.Upgrading other) NeedMore e h = absurd h
+        by (stage.Upgrading other) (Asked c) e h = absurd h
+        by (stage.Upgrading other) (Called c) e h = absurd h
+        by stage.Closing b e h = absurd h
+
+    -- what the head begins, as what it leads to begins it
+    pub head_begins : (new : Exchange) (begun : Begun) → BeginsHead rules peer head (record old { reader = reader }) new begun → Begins rules peer old new begun
+    head_begins new begun (inl h) = head_leads new begun h.0 h.1 h.2
+    head_begins new begun (inr h) =
+        let middle : Exchange = awaiting head peer (reply_to rules head) (record old { reader = reader }) in
+        begins_through rules peer old middle new begun (head_leads middle On h.0 refl refl) (h.1 peer)
 
   pub refusal_begins : (status : ℕ) → refuses status ≡ decision old.reader
       → Begins rules peer old (record { reader = reader; out = old.out ++ refusal status; stage = stage.Closing }) On
@@ -369,8 +385,8 @@ module _ (rules : Rules) (peer : Peer) (old : Exchange) (reader : Reading) (head
       )
 
   pub body_called : (data' : List ℕ) (new : Exchange) (begun : Begun) → a_body data' reader.unread ≡ decision old.reader
-      → IsCallOf old.stage data' new.stage begun → new.reader ≡ reader → new.out ≡ old.out → Begins rules peer old new begun
-  body_called data' new begun d w r o = by new.stage begun refl (subst (λ s. IsCallOf s data' new.stage begun) at w)
+      → IsCallWith (record { head = head; body = data'; peer = from }) reply new.stage begun → new.reader ≡ reader → new.out ≡ old.out → Begins rules peer old new begun
+  body_called data' new begun d w r o = by new.stage begun refl w
     where
       differ : a_body data' reader.unread ≡ needs_more → ⊥
       differ k = cc
@@ -381,7 +397,7 @@ module _ (rules : Rules) (peer : Peer) (old : Exchange) (reader : Reading) (head
       shorter : length reader.unread ≤ length old.reader.unread
       shorter = body_shorter old.reader data' reader.unread (sym d)
 
-      by : (s : Stage) (b : Begun) → new.stage ≡ s → IsCallWith head from reply data' s b → Begins rules peer old new b
+      by : (s : Stage) (b : Begun) → new.stage ≡ s → IsCallWith (record { head = head; body = data'; peer = from }) reply s b → Begins rules peer old new b
       by (stage.Calling request later) (Called called) e h = (
         λ f more. rw (r, o, e, at, h.0, h.1, h.2, body_stays (a_body data' reader.unread) more d (λ u. differ u)) refl,
         record {

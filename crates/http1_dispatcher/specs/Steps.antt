@@ -1,5 +1,5 @@
 -- How the exchange of a connection goes on.
-use Rattle.std.specs.Prelude.{◌≡◌, ◌<◌, ◌≤◌, ℕ, ◌+◌, ◌*◌, ◌&&◌, true, false, List, [], length, ⊤}
+use Rattle.std.specs.Prelude.{◌≡◌, ◌⊎◌, ◌<◌, ◌≤◌, ℕ, ◌+◌, ◌*◌, ◌&&◌, true, false, List, [], length, ⊤}
 use Rattle.http1_grammar.specs.Wire.{Response}
 use Rattle.http1_grammar.specs.Answers.{Expected}
 use Rattle.http1_grammar.specs.Reading.{needs_more, decision}
@@ -126,7 +126,7 @@ reply_to rules head =
 abbrev pub headed : Peer → RequestHead → Request
 headed peer head = record { head = head; body = []; peer = peer }
 
--- What is begun by a head: another protocol, a question whether its body may come, or that body.
+-- What a head leads to: another protocol, a question whether its body may come, or that body.
 abbrev pub IsHeaded : Rules → Peer → RequestHead → Stage → Begun → Type 0
 IsHeaded rules peer head (Upgrading other) On = ((upgrades (view head) && rules.has_upgrade) ≡ true) × (other ≡ head)
 IsHeaded rules peer head (Asking request reply) (Asked asked) =
@@ -137,20 +137,14 @@ IsHeaded rules peer head (Awaiting other from reply) On =
     × (other ≡ head) × (from ≡ peer) × (reply ≡ reply_to rules head)
 IsHeaded rules peer head stage begun = ⊥
 
--- it calls the service with a request of this head and peer and these data
-abbrev pub IsCallWith : RequestHead → Peer → Reply → List ℕ → Stage → Begun → Type 0
-IsCallWith head from reply data' (Calling request later) (Called called) =
-    (request.value ≡ called) × (called ≡ record { head = head; body = data'; peer = from }) × (later ≡ reply)
-IsCallWith head from reply data' stage begun = ⊥
+-- it waits for the body of this head and peer
+abbrev pub awaiting : RequestHead → Peer → Reply → Exchange → Exchange
+awaiting head from reply exchange = record exchange { stage = Awaiting head from reply }
 
--- the same behind the stage that waited for the body
-abbrev pub IsCallOf : Stage → List ℕ → Stage → Begun → Type 0
-IsCallOf Reading data' new begun = ⊥
-IsCallOf (Asking request reply) data' new begun = ⊥
-IsCallOf (Awaiting head from reply) data' new begun = IsCallWith head from reply data' new begun
-IsCallOf (Calling request reply) data' new begun = ⊥
-IsCallOf (Upgrading head) data' new begun = ⊥
-IsCallOf Closing data' new begun = ⊥
+-- it calls the service with this request, to which it replies so
+abbrev pub IsCallWith : Request → Reply → Stage → Begun → Type 0
+IsCallWith asked reply (Calling request later) (Called called) = (request.value ≡ called) × (called ≡ asked) × (later ≡ reply)
+IsCallWith asked reply stage begun = ⊥
 
 -- how far it is from its end, where so many bytes are unread: each step but writing lowers it
 abbrev pub pace_of : Stage → ℕ → ℕ
@@ -172,6 +166,17 @@ Begins rules peer old new (Asked request) =
     OwesSame rules peer old new × IsPlaced rules new × IsAsking new.stage request × (pace new < pace old)
 Begins rules peer old new (Called request) =
     OwesSame rules peer old new × IsPlaced rules new × IsCalling new.stage request × (pace new < pace old)
+
+-- what a body begins, whoever is at the other end of the connection
+abbrev pub BeginsBody : Rules → Exchange → Exchange → Begun → Type 0
+BeginsBody rules old new begun = (peer : Peer) → Begins rules peer old new begun
+
+-- what a head begins: another protocol, a question whether its body may come, or what its body begins
+abbrev pub BeginsHead : Rules → Peer → RequestHead → Exchange → Exchange → Begun → Type 0
+BeginsHead rules peer head old new begun =
+    (IsHeaded rules peer head new.stage begun × (new.reader ≡ old.reader) × (new.out ≡ old.out))
+    ⊎ (IsHeaded rules peer head (Awaiting head peer (reply_to rules head)) On
+    × BeginsBody rules (awaiting head peer (reply_to rules head) old) new begun)
 
 -- what an answer makes of it, where it is what these functions answer
 abbrev pub Answers : Rules → Peer → Functions → Exchange → Exchange → Type 0

@@ -1,10 +1,10 @@
 ghost use Rattle.std.specs.Prelude.{◌≡◌, ◌&&◌, ◌++◌, ◌<◌, IfOk, OnOk};
-ghost use Rattle.http1_grammar.specs.Reading.{IsRefusal};
+ghost use Rattle.http1_grammar.specs.Reading.{IsAtBody, IsRefusal};
 ghost use Rattle.http1_grammar.specs.Tokens.{upgrades};
 ghost use Rattle.http1_grammar.specs.Wire.{refusal};
 ghost use Rattle.http1_plain.specs.Views.{view};
 ghost use Rattle.http1_dispatcher.specs.Progress.{IsPlaced};
-ghost use Rattle.http1_dispatcher.specs.Steps.{Begins, IsAwaiting, IsCallOf, IsHeaded, IsOpen};
+ghost use Rattle.http1_dispatcher.specs.Steps.{Begins, BeginsBody, BeginsHead, IsAwaiting, IsCallWith, IsOpen, awaiting};
 ghost use Rattle.http1_dispatcher.specs.declared.exchange.Stage.TheVariants.{Closing, Reading};
 
 use crate::exchange::{Exchange, Reply, Stage};
@@ -49,6 +49,45 @@ fn is_upgrade(head: &RequestHead, rules: Rules) -> bool
     rules.has_upgrade && upgrades(head)
 }
 
+// Calls the service with the request.
+fn call(exchange: &mut Exchange, request: Request, reply: Reply) -> Begun
+    ensures stage { IsCallWith request reply exchange.new.stage result }
+    ensures reader { exchange.new.reader ≡ exchange.old.reader }
+    ensures out { exchange.new.out ≡ exchange.old.out }
+{
+    exchange.stage = Stage::Calling {
+        request: Snapshot::of(&request),
+        reply,
+    };
+    Begun::Called(request)
+}
+
+// Calls the service with the request of this head and peer, whose body comes next. Where it isn't there yet, it is waited for.
+fn take_body(
+    exchange: &mut Exchange,
+    head: RequestHead,
+    peer: Peer,
+    reply: Reply,
+    rules: Rules,
+) -> Result<Begun, AllocError>
+    requires placed { IsPlaced rules (awaiting head peer reply exchange.old) }
+    requires limited { 0 < rules.limits.head }
+    ensures { IfOk result (BeginsBody rules (awaiting head peer reply exchange.old) exchange.new) }
+{
+    match exchange.reader.next()? {
+        Step::NeedMore => {
+            exchange.stage = Stage::Awaiting { head, peer, reply };
+            Ok(Begun::NeedMore)
+        }
+        Step::Head(_) => unreachable!(),
+        Step::Body(body) => Ok(call(exchange, Request { head, body, peer }, reply)),
+        Step::Refused(status) => {
+            refuse(exchange, status)?;
+            Ok(Begun::On)
+        }
+    }
+}
+
 // Goes on as the head asks: to another protocol, to the expect service, or to its body.
 fn take_head(
     exchange: &mut Exchange,
@@ -57,9 +96,10 @@ fn take_head(
     peer: Peer,
     alloc: Global,
 ) -> Result<Begun, AllocError>
-    ensures stage { IfOk result (IsHeaded rules peer head exchange.new.stage) }
-    ensures reader { exchange.new.reader ≡ exchange.old.reader }
-    ensures out { exchange.new.out ≡ exchange.old.out }
+    requires limits { exchange.old.reader.limits ≡ rules.limits }
+    requires at_body { IsAtBody exchange.old.reader.stage }
+    requires limited { 0 < rules.limits.head }
+    ensures { IfOk result (BeginsHead rules peer head exchange.old exchange.new) }
 {
     if is_upgrade(&head, rules) {
         exchange.stage = Stage::Upgrading { head };
@@ -70,20 +110,19 @@ fn take_head(
         version: head.version,
         closing: closes(rules.keeps_alive, &head),
     };
-    if expects(&head) {
-        let request = Request {
-            head,
-            body: Octets::new(alloc),
-            peer,
-        };
-        exchange.stage = Stage::Asking {
-            request: Snapshot::of(&request),
-            reply,
-        };
-        return Ok(Begun::Asked(request));
+    if !expects(&head) {
+        return take_body(exchange, head, peer, reply, rules);
     }
-    exchange.stage = Stage::Awaiting { head, peer, reply };
-    Ok(Begun::On)
+    let request = Request {
+        head,
+        body: Octets::new(alloc),
+        peer,
+    };
+    exchange.stage = Stage::Asking {
+        request: Snapshot::of(&request),
+        reply,
+    };
+    Ok(Begun::Asked(request))
 }
 
 // Reads the next head.
@@ -109,45 +148,20 @@ fn begin_head(
     }
 }
 
-// Calls the service with the request that waited for this body.
-fn take_body(exchange: &mut Exchange, body: Octets) -> Begun
-    requires { IsAwaiting exchange.old.stage }
-    ensures stage { IsCallOf exchange.old.stage body exchange.new.stage result }
-    ensures reader { exchange.new.reader ≡ exchange.old.reader }
-    ensures out { exchange.new.out ≡ exchange.old.out }
+// Reads the body of the head that was read.
+fn begin_body(exchange: &mut Exchange, rules: Rules) -> Result<Begun, AllocError>
+    requires stage { IsAwaiting exchange.old.stage }
+    requires placed { IsPlaced rules exchange.old }
+    requires limited { 0 < rules.limits.head }
+    ensures { IfOk result (BeginsBody rules exchange.old exchange.new) }
 {
     match mem::replace(&mut exchange.stage, Stage::Closing) {
-        Stage::Awaiting { head, peer, reply } => {
-            let request = Request { head, body, peer };
-            exchange.stage = Stage::Calling {
-                request: Snapshot::of(&request),
-                reply,
-            };
-            Begun::Called(request)
-        }
+        Stage::Awaiting { head, peer, reply } => take_body(exchange, head, peer, reply, rules),
         Stage::Reading
         | Stage::Asking { .. }
         | Stage::Calling { .. }
         | Stage::Upgrading { .. }
         | Stage::Closing => unreachable!(),
-    }
-}
-
-// Reads the body of the head that was read.
-fn begin_body(exchange: &mut Exchange, rules: Rules, peer: Peer) -> Result<Begun, AllocError>
-    requires stage { IsAwaiting exchange.old.stage }
-    requires placed { IsPlaced rules exchange.old }
-    requires limited { 0 < rules.limits.head }
-    ensures { IfOk result (Begins rules peer exchange.old exchange.new) }
-{
-    match exchange.reader.next()? {
-        Step::NeedMore => Ok(Begun::NeedMore),
-        Step::Head(_) => unreachable!(),
-        Step::Body(body) => Ok(take_body(exchange, body)),
-        Step::Refused(status) => {
-            refuse(exchange, status)?;
-            Ok(Begun::On)
-        }
     }
 }
 
@@ -165,7 +179,7 @@ pub(crate) fn begin(
 {
     match &exchange.stage {
         Stage::Reading => begin_head(exchange, rules, peer, alloc),
-        Stage::Awaiting { .. } => begin_body(exchange, rules, peer),
+        Stage::Awaiting { .. } => begin_body(exchange, rules),
         Stage::Asking { .. } | Stage::Calling { .. } | Stage::Upgrading { .. } | Stage::Closing =>
             unreachable!(),
     }
