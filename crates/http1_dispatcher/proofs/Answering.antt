@@ -20,9 +20,9 @@ use Rattle.http1_plain.specs.declared.request_head.RequestHead.{RequestHead}
 use Rattle.service_core.specs.declared.peer.Peer.{Peer}
 use Rattle.http1_dispatcher.specs.Requests.{Functions, MayCome, settings_of, served}
 use Rattle.http1_dispatcher.specs.Progress.{answered, owed_behind, owed_expected, Stands, IsPlaced}
-use Rattle.http1_dispatcher.specs.Steps.{Begins, IsAwaiting, BeginsHead, IsCallWith, IsHeaded, awaiting, reply_to}
+use Rattle.http1_dispatcher.specs.Steps.{Begins, IsAwaiting, BeginsHead, IsCallWith, IsHeaded, PutsBy, awaiting, reply_to}
 use Rattle.http1_dispatcher.specs.declared.begin.Begun.{Begun}
-use Rattle.http1_dispatcher.specs.declared.begin.Begun.TheVariants.{NeedMore, On, Asked, Called}
+use Rattle.http1_dispatcher.specs.declared.begin.Begun.TheVariants.{NeedMore, On, Called}
 use Rattle.http1_dispatcher.specs.declared.exchange.Exchange.{Exchange}
 use Rattle.http1_dispatcher.specs.declared.exchange.Reply.{Reply}
 use Rattle.http1_dispatcher.specs.declared.exchange.Stage.{Stage}
@@ -211,8 +211,7 @@ begins_through : (rules : Rules) (peer : Peer) (old middle new : Exchange) (begu
     → Begins rules peer old middle On → Begins rules peer middle new begun → Begins rules peer old new begun
 begins_through rules peer old middle new NeedMore a b = (λ f more. b.0 f more ∙ a.0 f more, b.1, b.2)
 begins_through rules peer old middle new On a b = (λ f more. b.0 f more ∙ a.0 f more, b.1, b.2, omega (arith, a.3, b.3))
-begins_through rules peer old middle new (Asked request) a b = (λ f more. b.0 f more ∙ a.0 f more, b.1, b.2, omega (arith, a.3, b.3))
-begins_through rules peer old middle new (Called request) a b = (λ f more. b.0 f more ∙ a.0 f more, b.1, b.2, omega (arith, a.3, b.3))
+begins_through rules peer old middle new Called a b = (λ f more. b.0 f more ∙ a.0 f more, b.1, b.2, omega (arith, a.3, b.3))
 
 -- ---- at a head
 
@@ -238,8 +237,8 @@ module _ (rules : Rules) (peer : Peer) (old : Exchange) (reader : Reading) (at :
     body_behind = subst (λ (r : Reading). IsAtBody r.stage) (sym behind_head) (head_follows old.reader (view head) reader.unread (sym d)).1
 
     head_leads : (new : Exchange) (begun : Begun)
-        → IsHeaded rules peer head new.stage begun → new.reader ≡ reader → new.out ≡ old.out → Begins rules peer old new begun
-    head_leads new begun headed_is r o = by new.stage begun refl headed_is
+        → IsHeaded rules peer head new.stage begun → PutsBy begun new → new.reader ≡ reader → new.out ≡ old.out → Begins rules peer old new begun
+    head_leads new begun headed_is put r o = by new.stage begun refl headed_is put
       where
         is_found : next rules.limits old.reader.unread ≡ found (view head) reader.unread
         is_found = head_is (next rules.limits old.reader.unread) (view head) reader.unread (d ∙ decides)
@@ -262,49 +261,46 @@ module _ (rules : Rules) (peer : Peer) (old : Exchange) (reader : Reading) (at :
         shorter : length reader.unread < length old.reader.unread
         shorter = found_shorter rules.limits old.reader.unread (view head) reader.unread positive is_found
 
-        by : (s : Stage) (b : Begun) → new.stage ≡ s → IsHeaded rules peer head s b → Begins rules peer old new b
-        by (stage.Upgrading other) On e h = (
+        by : (s : Stage) (b : Begun) → new.stage ≡ s → IsHeaded rules peer head s b → PutsBy b new → Begins rules peer old new b
+        by (stage.Upgrading other) On e h p = (
           λ f more. rw (r, o, e, at, h.1) (ap (after old.out) (sym (goes f more ∙ head_upgrades rules peer f (view head) (reader.unread ++ more) h.0))),
           record { limits_are = rw r limits_behind; stands = rw e (and_right_true (upgrades (view head)) rules.has_upgrade h.0) },
           rw e tt,
           rw (e, at) (omega arith),
         )
-        by (stage.Asking request reply) (Asked asked) e h = (
-          λ f more. rw (r, o, e, at, h.2, h.3, h.4, reads more)
+        by (stage.Asking request reply) Called e h p = (
+          λ f more. rw (r, o, e, at, h.2, h.3, reads more)
               (ap (after old.out) (sym (goes f more ∙ head_asks rules peer f head (reader.unread ++ more) h.0 h.1))),
           record { limits_are = rw r limits_behind; stands = rw (e, r) body_behind },
-          rw e h.2,
+          p,
           rw (e, r, at) (omega (arith, shorter)),
         )
-        by (stage.Awaiting other from reply) On e h = (
+        by (stage.Awaiting other from reply) On e h p = (
           λ f more. rw (r, o, e, at, h.2, h.3, h.4, reads more)
               (ap (after old.out) (sym (goes f more ∙ head_goes rules peer f head (reader.unread ++ more) h.0 h.1))),
           record { limits_are = rw r limits_behind; stands = rw (e, r) body_behind },
           rw e tt,
           rw (e, r, at) (omega (arith, shorter)),
         )
-        by stage.Reading b e h = absurd h
-        by (stage.Asking request reply) NeedMore e h = absurd h
-        by (stage.Asking request reply) On e h = absurd h
-        by (stage.Asking request reply) (Called c) e h = absurd h
-        by (stage.Awaiting other from reply) NeedMore e h = absurd h
-        by (stage.Awaiting other from reply) (Asked c) e h = absurd h
-        by (stage.Awaiting other from reply) (Called c) e h = absurd h
-        by (stage.Calling request reply) b e h = absurd h
-        by (stage.Upgrading other) NeedMore e h = absurd h
-        by (stage.Upgrading other) (Asked c) e h = absurd h
-        by (stage.Upgrading other) (Called c) e h = absurd h
-        by stage.Closing b e h = absurd h
+        by stage.Reading b e h p = absurd h
+        by (stage.Asking request reply) NeedMore e h p = absurd h
+        by (stage.Asking request reply) On e h p = absurd h
+        by (stage.Awaiting other from reply) NeedMore e h p = absurd h
+        by (stage.Awaiting other from reply) Called e h p = absurd h
+        by (stage.Calling request reply) b e h p = absurd h
+        by (stage.Upgrading other) NeedMore e h p = absurd h
+        by (stage.Upgrading other) Called e h p = absurd h
+        by stage.Closing b e h p = absurd h
 
     -- what the head begins, as what it leads to begins it
     pub head_begins : (new : Exchange) (begun : Begun) → BeginsHead rules peer head (record old { reader = reader }) new begun → Begins rules peer old new begun
-    head_begins new begun (inl h) = head_leads new begun h.0 h.1 h.2
+    head_begins new begun (inl h) = head_leads new begun h.0 h.1 h.2 h.3
     head_begins new begun (inr h) =
         let middle : Exchange = awaiting head peer (reply_to rules head) (record old { reader = reader }) in
-        begins_through rules peer old middle new begun (head_leads middle On h.0 refl refl) (h.1 peer)
+        begins_through rules peer old middle new begun (head_leads middle On h.0 tt refl refl) (h.1 peer)
 
   pub refusal_begins : (status : ℕ) → refuses status ≡ decision old.reader
-      → Begins rules peer old (record { reader = reader; out = old.out ++ refusal status; stage = stage.Closing }) On
+      → Begins rules peer old (record old { reader = reader; out = old.out ++ refusal status; stage = stage.Closing }) On
   refusal_begins status d =
       let is = refusal_is (next rules.limits old.reader.unread) status (d ∙ decides) in
       let same = leaves ∙ ap (behind old.reader) (sym d) in (
@@ -320,7 +316,7 @@ module _ (rules : Rules) (peer : Peer) (old : Exchange) (reader : Reading) (at :
       differ k = cc
 
   pub head_waits : needs_more ≡ decision old.reader
-      → Begins rules peer old (record { reader = reader; out = old.out; stage = old.stage }) NeedMore
+      → Begins rules peer old (record old { reader = reader }) NeedMore
   head_waits d =
       let same = leaves ∙ ap (behind old.reader) (sym d) in
       let unread : reader.unread ≡ skip_empty_lines old.reader.unread =
@@ -359,7 +355,7 @@ module _ (rules : Rules) (peer : Peer) (old : Exchange) (reader : Reading) (head
       decided_stays old.reader more (rw placed.limits_are positive) (λ u. n (e ∙ u)) ∙ ap (λ x. extended_decision x more) (sym e)
 
   pub body_refused : (status : ℕ) → refuses status ≡ decision old.reader
-      → Begins rules peer old (record { reader = reader; out = old.out ++ refusal status; stage = stage.Closing }) On
+      → Begins rules peer old (record old { reader = reader; out = old.out ++ refusal status; stage = stage.Closing }) On
   body_refused status d =
       let same = leaves ∙ ap (behind old.reader) (sym d) in (
         λ f more. rw (at, body_stays (refuses status) more d (λ u. differ u)) (ap (λ x. (x, done)) (append-nil (old.out ++ refusal status))),
@@ -372,7 +368,7 @@ module _ (rules : Rules) (peer : Peer) (old : Exchange) (reader : Reading) (head
       differ k = cc
 
   pub body_pauses : needs_more ≡ decision old.reader
-      → Begins rules peer old (record { reader = reader; out = old.out; stage = old.stage }) NeedMore
+      → Begins rules peer old (record old { reader = reader }) NeedMore
   body_pauses d =
       let same = leaves ∙ ap (behind old.reader) (sym d) in (
         λ f more. rw at (ap (λ x. after old.out (owed_behind rules peer f (bare (view head) from) reply x))
@@ -385,8 +381,8 @@ module _ (rules : Rules) (peer : Peer) (old : Exchange) (reader : Reading) (head
       )
 
   pub body_called : (data' : List ℕ) (new : Exchange) (begun : Begun) → a_body data' reader.unread ≡ decision old.reader
-      → IsCallWith (record { head = head; body = data'; peer = from }) reply new.stage begun → new.reader ≡ reader → new.out ≡ old.out → Begins rules peer old new begun
-  body_called data' new begun d w r o = by new.stage begun refl w
+      → IsCallWith (record { head = head; body = data'; peer = from }) reply new.stage begun → PutsBy begun new → new.reader ≡ reader → new.out ≡ old.out → Begins rules peer old new begun
+  body_called data' new begun d w put r o = by new.stage begun refl w put
     where
       differ : a_body data' reader.unread ≡ needs_more → ⊥
       differ k = cc
@@ -397,21 +393,20 @@ module _ (rules : Rules) (peer : Peer) (old : Exchange) (reader : Reading) (head
       shorter : length reader.unread ≤ length old.reader.unread
       shorter = body_shorter old.reader data' reader.unread (sym d)
 
-      by : (s : Stage) (b : Begun) → new.stage ≡ s → IsCallWith (record { head = head; body = data'; peer = from }) reply s b → Begins rules peer old new b
-      by (stage.Calling request later) (Called called) e h = (
-        λ f more. rw (r, o, e, at, h.0, h.1, h.2, body_stays (a_body data' reader.unread) more d (λ u. differ u)) refl,
+      by : (s : Stage) (b : Begun) → new.stage ≡ s → IsCallWith (record { head = head; body = data'; peer = from }) reply s b → PutsBy b new → Begins rules peer old new b
+      by (stage.Calling request later) Called e h p = (
+        λ f more. rw (r, o, e, at, h.0, h.1, body_stays (a_body data' reader.unread) more d (λ u. differ u)) refl,
         record {
           limits_are = rw r (ap (λ (r : Reading). r.limits) same ∙ placed.limits_are);
           stands = rw (e, r) (ap (λ (r : Reading). r.stage) same);
         },
-        rw e h.0,
+        p,
         rw (e, r, at) (omega (arith, shorter)),
       )
-      by stage.Reading b e h = absurd h
-      by (stage.Asking request later) b e h = absurd h
-      by (stage.Awaiting other other_from later) b e h = absurd h
-      by (stage.Calling request later) NeedMore e h = absurd h
-      by (stage.Calling request later) On e h = absurd h
-      by (stage.Calling request later) (Asked c) e h = absurd h
-      by (stage.Upgrading other) b e h = absurd h
-      by stage.Closing b e h = absurd h
+      by stage.Reading b e h p = absurd h
+      by (stage.Asking request later) b e h p = absurd h
+      by (stage.Awaiting other other_from later) b e h p = absurd h
+      by (stage.Calling request later) NeedMore e h p = absurd h
+      by (stage.Calling request later) On e h p = absurd h
+      by (stage.Upgrading other) b e h p = absurd h
+      by stage.Closing b e h p = absurd h

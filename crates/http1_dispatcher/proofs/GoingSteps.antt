@@ -19,7 +19,7 @@ use Rattle.http1_dispatcher.specs.Requests.{AreFunctions, Functions, Relations, 
 use Rattle.http1_dispatcher.specs.Ending.{FaultsBy, OnTaken, OnUntaken, WroteAll, WroteBeyond, WroteSome}
 use Rattle.http1_dispatcher.specs.Moves.{Flushed, FlushAnswer, FillAnswer, KeptWriting, Gave}
 use Rattle.http1_dispatcher.specs.Progress.{Stands, IsPlaced, IsSound, owed_at, owed}
-use Rattle.http1_dispatcher.specs.Steps.{Answers, IsAnswer, IsAsk, IsAsking, IsCall, IsCalling, IsExpected, IsNoCall, IsOpen, OwesSame}
+use Rattle.http1_dispatcher.specs.Steps.{Answers, IsAnswer, IsAsk, IsCall, IsExpected, IsNoCall, IsOpen, OwesSame}
 use Rattle.http1_dispatcher.specs.Going.{Fits, IsGoing, IsQuiet, MayEndBy, MayExit, Start, Turns}
 use Rattle.http1_dispatcher.specs.declared.awaited.Awaited.{Awaited}
 use Rattle.http1_dispatcher.specs.declared.awaited.Awaited.TheVariants.{Response as Responding, Expectation}
@@ -41,24 +41,6 @@ module _ {E XE F XF : Type 0} (sf : FutureOf F (Result Response E)) (xf : Future
   no_call_fits awaited (Calling request reply) n = absurd n
   no_call_fits awaited (Upgrading head) n = tt
   no_call_fits awaited Closing n = tt
-
-  calling_fits : (future : F) (stage : Stage) (asked : Request) → IsCalling stage asked → GivesOnly sf future (r.may asked)
-      → Fits sf xf r (Responding future) stage
-  calling_fits future Reading asked n f = tt
-  calling_fits future (Asking request reply) asked n f = absurd n
-  calling_fits future (Awaiting head from reply) asked n f = tt
-  calling_fits future (Calling request reply) asked n f = rw n f
-  calling_fits future (Upgrading head) asked n f = tt
-  calling_fits future Closing asked n f = tt
-
-  asking_fits : (future : XF) (stage : Stage) (asked : Request) → IsAsking stage asked → GivesOnly xf future (r.asks asked)
-      → Fits sf xf r (Expectation future) stage
-  asking_fits future Reading asked n f = tt
-  asking_fits future (Asking request reply) asked n f = rw n f
-  asking_fits future (Awaiting head from reply) asked n f = tt
-  asking_fits future (Calling request reply) asked n f = absurd n
-  asking_fits future (Upgrading head) asked n f = tt
-  asking_fits future Closing asked n f = tt
 
   response_polled : (future later : F) (stage : Stage) → sf.can_poll later → ((x : Result Response E) → sf.gives later x → sf.gives future x)
       → Fits sf xf r (Responding future) stage → Fits sf xf r (Responding later) stage
@@ -147,29 +129,18 @@ module _ {L E XE F XF : Type 0} (g : LinkOf L) (r : Relations E XE) (start : Sta
   going_expectation_polled link old future later can same going =
       going_fits link old (Expectation future) (Expectation later) (expectation_polled sf xf r future later old.stage can same going.fits) going
 
-  going_begun : (link : L) (old new : Exchange) (awaited later : Awaited F XF) → OwesSame start.rules start.peer old new → IsPlaced start.rules new
-      → Fits sf xf r later new.stage
-      → IsGoing g r start sf xf link old awaited → IsGoing g r start sf xf link new later
-  going_begun link old new awaited later same placed fits going = record {
+  -- the request that was put by went to its service
+  pub going_out : (link : L) (old new later : Exchange) (awaited next : Awaited F XF) → later ≡ record new { request = None }
+      → OwesSame start.rules start.peer old new → IsPlaced start.rules new → Fits sf xf r next later.stage
+      → IsGoing g r start sf xf link old awaited → IsGoing g r start sf xf link later next
+  going_out link old new later awaited next is same placed fits going = record {
     limited = going.limited;
-    placed = placed;
+    placed = rw is (record { limits_are = placed.limits_are; stands = placed.stands });
     sound = going.sound;
     fits = fits;
-    goes = λ f are. progress_owes g (served start.rules start.peer f) start.link link (owed start.rules start.peer f old) (owed start.rules start.peer f new)
-        (same f) (going.goes f are);
+    goes = λ f are. rw is (progress_owes g (served start.rules start.peer f) start.link link (owed start.rules start.peer f old) (owed start.rules start.peer f new)
+        (same f) (going.goes f are));
   }
-
-  pub going_called : (link : L) (old new : Exchange) (awaited : Awaited F XF) (future : F) (asked : Request)
-      → OwesSame start.rules start.peer old new → IsPlaced start.rules new → IsCalling new.stage asked → GivesOnly sf future (r.may asked)
-      → IsGoing g r start sf xf link old awaited → IsGoing g r start sf xf link new (Responding future)
-  going_called link old new awaited future asked same placed n f going =
-      going_begun link old new awaited (Responding future) same placed (calling_fits sf xf r future new.stage asked n f) going
-
-  pub going_asked : (link : L) (old new : Exchange) (awaited : Awaited F XF) (future : XF) (asked : Request)
-      → OwesSame start.rules start.peer old new → IsPlaced start.rules new → IsAsking new.stage asked → GivesOnly xf future (r.asks asked)
-      → IsGoing g r start sf xf link old awaited → IsGoing g r start sf xf link new (Expectation future)
-  going_asked link old new awaited future asked same placed n f going =
-      going_begun link old new awaited (Expectation future) same placed (asking_fits sf xf r future new.stage asked n f) going
 
   pub going_wrote : (link after_link : L) (old new : Exchange) (awaited : Awaited F XF) → new.reader ≡ old.reader → new.stage ≡ old.stage
       → Flushed g link after_link old.out new.out → g.write_faults after_link ≡ g.write_faults link

@@ -1,5 +1,5 @@
 -- How the exchange of a connection goes on.
-use Rattle.std.specs.Prelude.{◌≡◌, ◌⊎◌, ◌<◌, ◌≤◌, ℕ, ◌+◌, ◌*◌, ◌&&◌, true, false, List, [], length, ⊤}
+use Rattle.std.specs.Prelude.{◌≡◌, ◌⊎◌, ◌<◌, ◌≤◌, ℕ, ◌+◌, ◌*◌, ◌&&◌, true, false, Option, Some, None, List, [], length, ⊤}
 use Rattle.http1_grammar.specs.Wire.{Response}
 use Rattle.http1_grammar.specs.Answers.{Expected}
 use Rattle.http1_grammar.specs.Reading.{needs_more, decision}
@@ -15,7 +15,7 @@ use Rattle.http1_dispatcher.specs.declared.exchange.Reply.{Reply}
 use Rattle.http1_dispatcher.specs.declared.exchange.Stage.{Stage}
 use Rattle.http1_dispatcher.specs.declared.exchange.Stage.TheVariants.{Reading, Asking, Awaiting, Calling, Upgrading, Closing}
 use Rattle.http1_dispatcher.specs.declared.begin.Begun.{Begun}
-use Rattle.http1_dispatcher.specs.declared.begin.Begun.TheVariants.{NeedMore, On, Asked, Called}
+use Rattle.http1_dispatcher.specs.declared.begin.Begun.TheVariants.{NeedMore, On, Called}
 use Rattle.http1_dispatcher.specs.declared.rules.Rules.{Rules}
 
 -- the same answers are owed, for each pair of functions
@@ -99,6 +99,26 @@ IsAsking (Calling request reply) asked = ⊥
 IsAsking (Upgrading head) asked = ⊥
 IsAsking Closing asked = ⊥
 
+-- it calls a service with this request: that of requests, or the expect service
+abbrev pub IsCalledWith : Stage → Request → Type 0
+IsCalledWith Reading asked = ⊥
+IsCalledWith (Asking request reply) asked = request.value ≡ asked
+IsCalledWith (Awaiting head from reply) asked = ⊥
+IsCalledWith (Calling request reply) asked = request.value ≡ asked
+IsCalledWith (Upgrading head) asked = ⊥
+IsCalledWith Closing asked = ⊥
+
+-- the request that it calls a service with is put by
+abbrev pub IsPutBy : Option Request → Stage → Type 0
+IsPutBy None stage = ⊥
+IsPutBy (Some asked) stage = IsCalledWith stage asked
+
+-- where a service is to be called, the request is put by
+abbrev pub PutsBy : Begun → Exchange → Type 0
+PutsBy NeedMore exchange = ⊤
+PutsBy On exchange = ⊤
+PutsBy Called exchange = IsPutBy exchange.request exchange.stage
+
 -- the handler's response to the request that it has called the service with
 abbrev pub IsAnswer : Stage → Handler → Response → Type 0
 IsAnswer Reading h response = ⊥
@@ -129,9 +149,9 @@ headed peer head = record { head = head; body = []; peer = peer }
 -- What a head leads to: another protocol, a question whether its body may come, or that body.
 abbrev pub IsHeaded : Rules → Peer → RequestHead → Stage → Begun → Type 0
 IsHeaded rules peer head (Upgrading other) On = ((upgrades (view head) && rules.has_upgrade) ≡ true) × (other ≡ head)
-IsHeaded rules peer head (Asking request reply) (Asked asked) =
+IsHeaded rules peer head (Asking request reply) Called =
     ((upgrades (view head) && rules.has_upgrade) ≡ false) × (expects (view head) ≡ true)
-    × (request.value ≡ asked) × (asked ≡ headed peer head) × (reply ≡ reply_to rules head)
+    × (request.value ≡ headed peer head) × (reply ≡ reply_to rules head)
 IsHeaded rules peer head (Awaiting other from reply) On =
     ((upgrades (view head) && rules.has_upgrade) ≡ false) × (expects (view head) ≡ false)
     × (other ≡ head) × (from ≡ peer) × (reply ≡ reply_to rules head)
@@ -143,7 +163,7 @@ awaiting head from reply exchange = record exchange { stage = Awaiting head from
 
 -- it calls the service with this request, to which it replies so
 abbrev pub IsCallWith : Request → Reply → Stage → Begun → Type 0
-IsCallWith asked reply (Calling request later) (Called called) = (request.value ≡ called) × (called ≡ asked) × (later ≡ reply)
+IsCallWith asked reply (Calling request later) Called = (request.value ≡ asked) × (later ≡ reply)
 IsCallWith asked reply stage begun = ⊥
 
 -- how far it is from its end, where so many bytes are unread: each step but writing lowers it
@@ -162,10 +182,8 @@ pace exchange = pace_of exchange.stage (length exchange.reader.unread)
 abbrev pub Begins : Rules → Peer → Exchange → Exchange → Begun → Type 0
 Begins rules peer old new NeedMore = OwesSame rules peer old new × IsPlaced rules new × IsUndecided new
 Begins rules peer old new On = OwesSame rules peer old new × IsPlaced rules new × IsNoCall new.stage × (pace new < pace old)
-Begins rules peer old new (Asked request) =
-    OwesSame rules peer old new × IsPlaced rules new × IsAsking new.stage request × (pace new < pace old)
-Begins rules peer old new (Called request) =
-    OwesSame rules peer old new × IsPlaced rules new × IsCalling new.stage request × (pace new < pace old)
+Begins rules peer old new Called =
+    OwesSame rules peer old new × IsPlaced rules new × IsPutBy new.request new.stage × (pace new < pace old)
 
 -- what a body begins, whoever is at the other end of the connection
 abbrev pub BeginsBody : Rules → Exchange → Exchange → Begun → Type 0
@@ -174,7 +192,7 @@ BeginsBody rules old new begun = (peer : Peer) → Begins rules peer old new beg
 -- what a head begins: another protocol, a question whether its body may come, or what its body begins
 abbrev pub BeginsHead : Rules → Peer → RequestHead → Exchange → Exchange → Begun → Type 0
 BeginsHead rules peer head old new begun =
-    (IsHeaded rules peer head new.stage begun × (new.reader ≡ old.reader) × (new.out ≡ old.out))
+    (IsHeaded rules peer head new.stage begun × PutsBy begun new × (new.reader ≡ old.reader) × (new.out ≡ old.out))
     ⊎ (IsHeaded rules peer head (Awaiting head peer (reply_to rules head)) On
     × BeginsBody rules (awaiting head peer (reply_to rules head) old) new begun)
 

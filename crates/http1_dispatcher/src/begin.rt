@@ -4,9 +4,10 @@ ghost use Rattle.http1_grammar.specs.Tokens.{upgrades};
 ghost use Rattle.http1_grammar.specs.Wire.{refusal};
 ghost use Rattle.http1_plain.specs.Views.{view};
 ghost use Rattle.http1_dispatcher.specs.Progress.{IsPlaced};
-ghost use Rattle.http1_dispatcher.specs.Steps.{Begins, BeginsBody, BeginsHead, IsAwaiting, IsCallWith, IsOpen, awaiting};
+ghost use Rattle.http1_dispatcher.specs.Steps.{Begins, BeginsBody, BeginsHead, IsAwaiting, IsCallWith, IsOpen, PutsBy, awaiting};
 ghost use Rattle.http1_dispatcher.specs.declared.exchange.Stage.TheVariants.{Closing, Reading};
 
+use crate::boxed::Boxed;
 use crate::exchange::{Exchange, Reply, Stage};
 use crate::rules::Rules;
 use http1_head::{closes, expects, upgrades};
@@ -18,16 +19,14 @@ use std::mem;
 use std::snapshot::Snapshot;
 
 /// What the unread bytes began.
-#[derive(Drop)]
+#[derive(Clone, Copy)]
 pub(crate) enum Begun {
     /// More bytes decide it.
     NeedMore,
     /// A head was read, or no more requests are.
     On,
-    /// The expect service is to be asked with this request.
-    Asked(Request),
-    /// The service is to be called with this request.
-    Called(Request),
+    /// A service is to be called with the request that is put by.
+    Called,
 }
 
 // Refuses the request, and closes.
@@ -52,6 +51,7 @@ fn is_upgrade(head: &RequestHead, rules: Rules) -> bool
 // Calls the service with the request.
 fn call(exchange: &mut Exchange, request: Request, reply: Reply) -> Begun
     ensures stage { IsCallWith request reply exchange.new.stage result }
+    ensures put { PutsBy result exchange.new }
     ensures reader { exchange.new.reader ≡ exchange.old.reader }
     ensures out { exchange.new.out ≡ exchange.old.out }
 {
@@ -59,7 +59,8 @@ fn call(exchange: &mut Exchange, request: Request, reply: Reply) -> Begun
         request: Snapshot::of(&request),
         reply,
     };
-    Begun::Called(request)
+    exchange.request = Some(request);
+    Begun::Called
 }
 
 // Calls the service with the request of this head and peer, whose body comes next. Where it isn't there yet, it is waited for.
@@ -69,6 +70,7 @@ fn take_body(
     peer: Peer,
     reply: Reply,
     rules: Rules,
+    alloc: Global,
 ) -> Result<Begun, AllocError>
     requires placed { IsPlaced rules (awaiting head peer reply exchange.old) }
     requires limited { 0 < rules.limits.head }
@@ -76,7 +78,11 @@ fn take_body(
 {
     match exchange.reader.next()? {
         Step::NeedMore => {
-            exchange.stage = Stage::Awaiting { head, peer, reply };
+            exchange.stage = Stage::Awaiting {
+                head: Boxed::new(alloc, head)?,
+                peer,
+                reply,
+            };
             Ok(Begun::NeedMore)
         }
         Step::Head(_) => unreachable!(),
@@ -102,7 +108,9 @@ fn take_head(
     ensures { IfOk result (BeginsHead rules peer head exchange.old exchange.new) }
 {
     if is_upgrade(&head, rules) {
-        exchange.stage = Stage::Upgrading { head };
+        exchange.stage = Stage::Upgrading {
+            head: Boxed::new(alloc, head)?,
+        };
         return Ok(Begun::On);
     }
     let reply = Reply {
@@ -111,7 +119,7 @@ fn take_head(
         closing: closes(rules.keeps_alive, &head),
     };
     if !expects(&head) {
-        return take_body(exchange, head, peer, reply, rules);
+        return take_body(exchange, head, peer, reply, rules, alloc);
     }
     let request = Request {
         head,
@@ -122,7 +130,8 @@ fn take_head(
         request: Snapshot::of(&request),
         reply,
     };
-    Ok(Begun::Asked(request))
+    exchange.request = Some(request);
+    Ok(Begun::Called)
 }
 
 // Reads the next head.
@@ -149,14 +158,16 @@ fn begin_head(
 }
 
 // Reads the body of the head that was read.
-fn begin_body(exchange: &mut Exchange, rules: Rules) -> Result<Begun, AllocError>
+fn begin_body(exchange: &mut Exchange, rules: Rules, alloc: Global) -> Result<Begun, AllocError>
     requires stage { IsAwaiting exchange.old.stage }
     requires placed { IsPlaced rules exchange.old }
     requires limited { 0 < rules.limits.head }
     ensures { IfOk result (BeginsBody rules exchange.old exchange.new) }
 {
     match mem::replace(&mut exchange.stage, Stage::Closing) {
-        Stage::Awaiting { head, peer, reply } => take_body(exchange, head, peer, reply, rules),
+        Stage::Awaiting { head, peer, reply } => {
+            take_body(exchange, head.into_inner(), peer, reply, rules, alloc)
+        }
         Stage::Reading
         | Stage::Asking { .. }
         | Stage::Calling { .. }
@@ -179,7 +190,7 @@ pub(crate) fn begin(
 {
     match &exchange.stage {
         Stage::Reading => begin_head(exchange, rules, peer, alloc),
-        Stage::Awaiting { .. } => begin_body(exchange, rules),
+        Stage::Awaiting { .. } => begin_body(exchange, rules, alloc),
         Stage::Asking { .. } | Stage::Calling { .. } | Stage::Upgrading { .. } | Stage::Closing =>
             unreachable!(),
     }

@@ -99,6 +99,7 @@ where
                 reader: Reader::new(alloc, limits),
                 out: Outgoing::new(alloc),
                 stage: Stage::Reading,
+                request: None,
             },
             awaited: Awaited::Nothing,
             waits: Waits {

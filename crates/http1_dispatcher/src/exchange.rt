@@ -1,3 +1,4 @@
+use crate::boxed::Boxed;
 use crate::outgoing::Outgoing;
 use http::method::Method;
 use http1_plain::{HttpVersion, Request, RequestHead};
@@ -26,7 +27,7 @@ pub(crate) enum Stage {
     },
     /// It reads the body of the request with this head and peer, which are those that the expect service gave.
     Awaiting {
-        head: RequestHead,
+        head: Boxed<RequestHead>,
         peer: Peer,
         reply: Reply,
     },
@@ -37,7 +38,7 @@ pub(crate) enum Stage {
     },
     /// This head asks for another protocol. All that is left is to write, and to hand the link over.
     Upgrading {
-        head: RequestHead,
+        head: Boxed<RequestHead>,
     },
     /// All that is left is to write.
     Closing,
@@ -49,4 +50,6 @@ pub(crate) struct Exchange {
     pub(crate) reader: Reader,
     pub(crate) out: Outgoing,
     pub(crate) stage: Stage,
+    /// The request that a service is to be called with now.
+    pub(crate) request: Option<Request>,
 }

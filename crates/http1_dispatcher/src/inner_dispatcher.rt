@@ -1,12 +1,14 @@
-ghost use Rattle.std.specs.Prelude.{◌≡◌, ◌≤◌, ◌<◌, ◌⊎◌, [], true, false, Ok};
+ghost use Rattle.std.specs.Prelude.{◌≡◌, ◌≤◌, ◌<◌, ◌⊎◌, [], true, false, None, Ok};
+ghost use Rattle.std.specs.Arc.{arc_value};
 ghost use Rattle.futures.specs.Task.{IsArmed, Keeps};
 ghost use Rattle.futures.specs.Poll.{IfReady, OnPending};
 ghost use Rattle.service_core.specs.Counts.{Rose};
 ghost use Rattle.service_core.specs.declared.ended.How.TheVariants.{Memory};
+ghost use Rattle.http1_dispatcher.specs.Connecting.{relations_of};
 ghost use Rattle.http1_dispatcher.specs.Connection.{TookLittle};
 ghost use Rattle.http1_dispatcher.specs.Dispatching.{Exits, Goes, MayCall};
-ghost use Rattle.http1_dispatcher.specs.Going.{IsQuiet, Paused, Turns, Waited};
-ghost use Rattle.http1_dispatcher.specs.Steps.{IsAsk, IsCall, IsNoCall, IsOpen, IsUndecided, pace};
+ghost use Rattle.http1_dispatcher.specs.Going.{Fits, IsQuiet, Paused, Turns, Waited};
+ghost use Rattle.http1_dispatcher.specs.Steps.{IsAsk, IsCall, IsNoCall, IsOpen, IsPutBy, IsUndecided, pace};
 ghost use Rattle.http1_dispatcher.specs.declared.turn.Exit.TheVariants.{Ended};
 
 use crate::awaited::Awaited;
@@ -118,7 +120,12 @@ where
                 Poll::Pending
             }
             Poll::Ready(Ok(request)) => {
-                match let_come(&mut self.exchange, self.terms.rules, request) {
+                match let_come(
+                    &mut self.exchange,
+                    self.terms.rules,
+                    request,
+                    self.terms.alloc,
+                ) {
                     Ok(()) => Poll::Ready(Turn::On),
                     Err(_) => Poll::Ready(OUT_OF_MEMORY),
                 }
@@ -227,6 +234,32 @@ where
         self.write(cx)
     }
 
+    // Calls the service that the stage names with the request that is put by.
+    fn call(&mut self)
+        requires can { MayCall S.Service X.Service self.old.terms }
+        requires put { IsPutBy self.old.exchange.request self.old.exchange.stage }
+        ensures terms { self.new.terms ≡ self.old.terms }
+        ensures link { self.new.link ≡ self.old.link }
+        ensures waits { self.new.waits ≡ self.old.waits }
+        ensures exchange { self.new.exchange ≡ record self.old.exchange { request = None } }
+        ensures fits { Fits S.Future.Future X.Future.Future
+            (relations_of S.Service S.Error.response X.Service X.Error.response (arc_value self.old.terms.flow)) self.new.awaited self.new.exchange.stage }
+    {
+        let Some(request) = self.exchange.request.take() else {
+            unreachable!()
+        };
+        match &self.exchange.stage {
+            Stage::Asking { .. } => {
+                self.awaited = Awaited::Expectation(self.terms.flow.expect.call(request));
+            }
+            Stage::Calling { .. } => {
+                self.awaited = Awaited::Response(self.terms.flow.service.call(request));
+            }
+            Stage::Reading | Stage::Awaiting { .. } | Stage::Upgrading { .. } | Stage::Closing =>
+                unreachable!(),
+        }
+    }
+
     // Takes the next step, if the bytes decide it. The step may call a service.
     fn begin(&mut self) -> Result<bool, AllocError>
         requires can { MayCall S.Service X.Service self.old.terms }
@@ -249,12 +282,8 @@ where
         )? {
             Begun::NeedMore => Ok(false),
             Begun::On => Ok(true),
-            Begun::Asked(request) => {
-                self.awaited = Awaited::Expectation(self.terms.flow.expect.call(request));
-                Ok(true)
-            }
-            Begun::Called(request) => {
-                self.awaited = Awaited::Response(self.terms.flow.service.call(request));
+            Begun::Called => {
+                self.call();
                 Ok(true)
             }
         }

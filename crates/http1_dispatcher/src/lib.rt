@@ -4,6 +4,7 @@
 
 mod awaited;
 mod begin;
+mod boxed;
 mod dispatcher;
 mod exchange;
 mod fill;

@@ -7,6 +7,7 @@ ghost use Rattle.http1_dispatcher.specs.Progress.{IsPlaced};
 ghost use Rattle.http1_dispatcher.specs.Steps.{Answers, GoesOn, IsAnswer, IsAsk, IsCall, IsExpected};
 ghost use Rattle.http1_dispatcher.specs.declared.exchange.Stage.TheVariants.{Closing, Reading};
 
+use crate::boxed::Boxed;
 use crate::exchange::{Exchange, Stage};
 use crate::rules::Rules;
 use http1_plain::{ErrorResponse, Request, Response};
@@ -70,6 +71,7 @@ pub(crate) fn let_come(
     exchange: &mut Exchange,
     rules: Rules,
     request: Request,
+    alloc: Global,
 ) -> Result<(), AllocError>
     requires asked { IsAsk exchange.old.stage }
     requires placed { IsPlaced rules exchange.old }
@@ -85,7 +87,11 @@ pub(crate) fn let_come(
                 body: _,
                 peer,
             } = request;
-            exchange.stage = Stage::Awaiting { head, peer, reply };
+            exchange.stage = Stage::Awaiting {
+                head: Boxed::new(alloc, head)?,
+                peer,
+                reply,
+            };
             Ok(())
         }
         Stage::Reading

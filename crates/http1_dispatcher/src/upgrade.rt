@@ -109,12 +109,13 @@ where
         reader,
         out: _,
         stage,
+        request: _,
     } = exchange;
     let Stage::Upgrading { head } = stage else {
         unreachable!()
     };
     let request = Request {
-        head,
+        head: head.into_inner(),
         body: Octets::new(terms.alloc),
         peer: terms.peer,
     };

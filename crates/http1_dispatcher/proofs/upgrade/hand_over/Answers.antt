@@ -7,7 +7,7 @@ use Rattle.http1_dispatcher.proofs.upgrade.hand_over.Goals as goal
 pub returns-clause-upgrades : goal.returns-clause-upgrades
 returns-clause-upgrades g c =
     let inner = c.args.inner in
-    let is = rw (c.new.ensures, c.into_unread.ensures) at c.of-seen.ensures in
+    let is = rw (c.new.ensures, c.into_unread.ensures, c.into_inner.ensures) at c.of-seen.ensures in
     let part : (arc_value inner.terms.flow).upgrade ≡ Some c.in-Some.upgrade = rw c.deref.ensures at c.in-Some.is in
     let begun = rw (sym c.of-seen.ensures) at c.call.ensures in
     upgrading g.L.Link _ _ g.U.Service g.U.Future.Future g.U.Future.LinkHolder.may_stand _ _ (arc_value inner.terms.flow).upgrade c.in-Some.upgrade

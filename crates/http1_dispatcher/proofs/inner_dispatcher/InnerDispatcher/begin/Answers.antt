@@ -1,4 +1,4 @@
-use Rattle.http1_dispatcher.proofs.GoingSteps.{going_answered, going_asked, going_called, open_no_call}
+use Rattle.http1_dispatcher.proofs.GoingSteps.{going_answered, going_out, open_no_call}
 use Rattle.http1_dispatcher.proofs.inner_dispatcher.InnerDispatcher.begin.Goals as goal
 
 pub returns-in-NeedMore-clause-undecided : goal.returns-in-NeedMore-clause-undecided
@@ -17,20 +17,11 @@ returns-in-On-clause-begun g c =
       begun.3,
     )
 
-pub returns-in-Asked-clause-begun : goal.returns-in-Asked-clause-begun
-returns-in-Asked-clause-begun g c =
-    let begun = rw c.in-Asked.is at c.in_ok-begin.ensures in
-    λ _. (
-      going_asked _ _ _ _ _ _ c.args.self.now.exchange c.begin.new.exchange _ _ c.in-Asked.request begun.0 begun.1 begun.2
-          (rw c.deref.ensures at (g.met.X.Service.begun_gives _ _ _ c.call.ensures)) c.requires.going,
-      begun.3,
-    )
-
 pub returns-in-Called-clause-begun : goal.returns-in-Called-clause-begun
 returns-in-Called-clause-begun g c =
     let begun = rw c.in-Called.is at c.in_ok-begin.ensures in
     λ _. (
-      going_called _ _ _ _ _ _ c.args.self.now.exchange c.begin.new.exchange _ _ c.in-Called.request begun.0 begun.1 begun.2
-          (rw c.deref-in-Called.ensures at (g.met.S.Service.begun_gives _ _ _ c.call-in-Called.ensures)) c.requires.going,
-      begun.3,
+      rw (c.call.ensures.terms, c.call.ensures.link) (going_out _ _ _ _ _ _ c.args.self.now.exchange c.begin.new.exchange c.call.new.self.exchange _ _
+          c.call.ensures.exchange begun.0 begun.1 c.call.ensures.fits c.requires.going),
+      rw c.call.ensures.exchange begun.3,
     )
