@@ -166,6 +166,15 @@ abbrev pub IsCallWith : Request → Reply → Stage → Begun → Type 0
 IsCallWith asked reply (Calling request later) Called = (request.value ≡ asked) × (later ≡ reply)
 IsCallWith asked reply stage begun = ⊥
 
+-- the same behind the stage that waited for the body
+abbrev pub IsCallOf : Stage → List ℕ → Stage → Begun → Type 0
+IsCallOf Reading data' new begun = ⊥
+IsCallOf (Asking request reply) data' new begun = ⊥
+IsCallOf (Awaiting head from reply) data' new begun = IsCallWith (record { head = head; body = data'; peer = from }) reply new begun
+IsCallOf (Calling request reply) data' new begun = ⊥
+IsCallOf (Upgrading head) data' new begun = ⊥
+IsCallOf Closing data' new begun = ⊥
+
 -- how far it is from its end, where so many bytes are unread: each step but writing lowers it
 abbrev pub pace_of : Stage → ℕ → ℕ
 pace_of Reading count = 4 * count + 1

@@ -4,7 +4,7 @@ ghost use Rattle.http1_grammar.specs.Tokens.{upgrades};
 ghost use Rattle.http1_grammar.specs.Wire.{refusal};
 ghost use Rattle.http1_plain.specs.Views.{view};
 ghost use Rattle.http1_dispatcher.specs.Progress.{IsPlaced};
-ghost use Rattle.http1_dispatcher.specs.Steps.{Begins, BeginsBody, BeginsHead, IsAwaiting, IsCallWith, IsOpen, PutsBy, awaiting};
+ghost use Rattle.http1_dispatcher.specs.Steps.{Begins, BeginsBody, BeginsHead, IsAwaiting, IsCallOf, IsCallWith, IsOpen, PutsBy, awaiting};
 ghost use Rattle.http1_dispatcher.specs.declared.exchange.Stage.TheVariants.{Closing, Reading};
 
 use crate::boxed::Boxed;
@@ -157,22 +157,42 @@ fn begin_head(
     }
 }
 
-// Reads the body of the head that was read.
-fn begin_body(exchange: &mut Exchange, rules: Rules, alloc: Global) -> Result<Begun, AllocError>
-    requires stage { IsAwaiting exchange.old.stage }
-    requires placed { IsPlaced rules exchange.old }
-    requires limited { 0 < rules.limits.head }
-    ensures { IfOk result (BeginsBody rules exchange.old exchange.new) }
+// Calls the service with the request that waited for this body.
+fn call_awaited(exchange: &mut Exchange, body: Octets) -> Begun
+    requires { IsAwaiting exchange.old.stage }
+    ensures stage { IsCallOf exchange.old.stage body exchange.new.stage result }
+    ensures put { PutsBy result exchange.new }
+    ensures reader { exchange.new.reader ≡ exchange.old.reader }
+    ensures out { exchange.new.out ≡ exchange.old.out }
 {
     match mem::replace(&mut exchange.stage, Stage::Closing) {
         Stage::Awaiting { head, peer, reply } => {
-            take_body(exchange, head.into_inner(), peer, reply, rules, alloc)
+            let head = head.into_inner();
+            call(exchange, Request { head, body, peer }, reply)
         }
         Stage::Reading
         | Stage::Asking { .. }
         | Stage::Calling { .. }
         | Stage::Upgrading { .. }
         | Stage::Closing => unreachable!(),
+    }
+}
+
+// Reads the body of the head that was read.
+fn begin_body(exchange: &mut Exchange, rules: Rules) -> Result<Begun, AllocError>
+    requires stage { IsAwaiting exchange.old.stage }
+    requires placed { IsPlaced rules exchange.old }
+    requires limited { 0 < rules.limits.head }
+    ensures { IfOk result (BeginsBody rules exchange.old exchange.new) }
+{
+    match exchange.reader.next()? {
+        Step::NeedMore => Ok(Begun::NeedMore),
+        Step::Head(_) => unreachable!(),
+        Step::Body(body) => Ok(call_awaited(exchange, body)),
+        Step::Refused(status) => {
+            refuse(exchange, status)?;
+            Ok(Begun::On)
+        }
     }
 }
 
@@ -190,7 +210,7 @@ pub(crate) fn begin(
 {
     match &exchange.stage {
         Stage::Reading => begin_head(exchange, rules, peer, alloc),
-        Stage::Awaiting { .. } => begin_body(exchange, rules, alloc),
+        Stage::Awaiting { .. } => begin_body(exchange, rules),
         Stage::Asking { .. } | Stage::Calling { .. } | Stage::Upgrading { .. } | Stage::Closing =>
             unreachable!(),
     }
