@@ -6,6 +6,7 @@ use Rattle.std.proofs.lemmas.List.Elements.{All-head, All-tail, All-push}
 use Rattle.futures.specs.declared.future.Future.{Ghosts as FutureOf}
 use Rattle.rtrb.specs.Ring.{received}
 use Rattle.service_core.specs.Link.{Identity}
+use Rattle.service_core.specs.Shown.{wait_count}
 use Rattle.service_core.specs.declared.ended.Ended.{Ended}
 use Rattle.server_jobs.specs.Cards.{Card, card, of_waiting}
 use Rattle.server_worker.specs.Polled.{Admits, as_it_is}
@@ -29,7 +30,7 @@ is_made slots token slot inside is all =
     subst IsMade here (all token inside)
 
 same_weight : {L Fut : Type 0} (identity : L → Identity) (h : Card → ℕ → ℕ) (w : Waiting L) (c : Live L Fut)
-    → c.serial ≡ w.serial → c.token ≡ w.token → c.place ≡ w.place → c.given.value ≡ w.link → c.future.waits ≡ 0 → as_it_is identity h c ≡ h (card w.serial w.token w.place (identity w.link)) 0
+    → c.serial ≡ w.serial → c.token ≡ w.token → c.place ≡ w.place → c.given.value ≡ w.link → wait_count c.future ≡ 0 → as_it_is identity h c ≡ h (card w.serial w.token w.place (identity w.link)) 0
 same_weight identity h w c serial token place given fresh = rw (serial, token, place, given, fresh)
 
 module _ {L Fut : Type 0} (identity : L → Identity) where
@@ -70,7 +71,7 @@ module _ {L Fut : Type 0} (identity : L → Identity) where
     abbrev the_card : Card
     the_card = card w.serial w.token w.place (identity w.link)
 
-    pub admits_one : c.future.waits ≡ 0 → Admits identity a b
+    pub admits_one : wait_count c.future ≡ 0 → Admits identity a b
     admits_one fresh = record {
       admitted = the_card ∷ [];
       live = λ h.

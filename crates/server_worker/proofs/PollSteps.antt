@@ -10,6 +10,7 @@ use Rattle.futures.specs.declared.future.Future.{Ghosts as FutureOf}
 use Rattle.rtrb.specs.Ring.{received}
 use Rattle.service_core.specs.Counts.{risen}
 use Rattle.service_core.specs.Link.{Identity}
+use Rattle.service_core.specs.Shown.{wait_count}
 use Rattle.service_core.specs.declared.ended.Ended.{Ended}
 use Rattle.server_run.specs.Delivery.{ComesBack}
 use Rattle.server_jobs.specs.Cards.{Card, of_note}
@@ -68,7 +69,7 @@ module _ {L E Fut : Type 0} (g : FutureOf Fut (Result (Ended L) E)) (may_stand :
     before = sum_by_more (once_polled identity h) a.live.items at c inside ∙ ap (λ x. sum_by (once_polled identity h) (take at a.live.items) + once_polled identity h x) (sym here)
 
   -- it was pending
-  pub polled_pending : (b : Connections L Fut) → Serves g may_stand may_serve may_leave d → d.future.waits ≡ risen c.future.waits
+  pub polled_pending : (b : Connections L Fut) → Serves g may_stand may_serve may_leave d → wait_count d.future ≡ risen (wait_count c.future)
       → b.live.items ≡ set a.live.items at d → b.owed ≡ a.owed → b.parcels ≡ a.parcels → b.notes ≡ a.notes → b.queue ≡ a.queue → b.strays ≡ a.strays → b.stopped ≡ a.stopped → b.told ≡ a.told
       → PolledFrom g may_stand may_serve may_leave may_make listeners identity first b at
   polled_pending b serves waits live owed parcels notes queue strays stopped told = record {
@@ -107,11 +108,11 @@ module _ {L E Fut : Type 0} (g : FutureOf Fut (Result (Ended L) E)) (may_stand :
       owed = rw (ends.parcels, ends.owed, parcels, owed) (All-push (IsTold may_serve may_leave may_make listeners (received a.parcels)) a.owed.items (Back (entry_of d f)) so_far.sound.owed answer);
     };
     within = rw items (omega (arith, length_removed a.live.items at c inside));
-    ended = so_far.ended ++ (card_of identity c, risen c.future.waits) ∷ [];
-    once = λ h. rw (items, removed_before a.live.items at c inside) (omega (arith, before h, sum_from_removed (as_it_is identity h) a.live.items at c inside, so_far.once h, sum_by_push (λ (e : Card × ℕ). h e.0 e.1) so_far.ended (card_of identity c, risen c.future.waits)));
+    ended = so_far.ended ++ (card_of identity c, risen (wait_count c.future)) ∷ [];
+    once = λ h. rw (items, removed_before a.live.items at c inside) (omega (arith, before h, sum_from_removed (as_it_is identity h) a.live.items at c inside, so_far.once h, sum_by_push (λ (e : Card × ℕ). h e.0 e.1) so_far.ended (card_of identity c, risen (wait_count c.future))));
     told = λ h. rw (ends.owed, owed) (
         let weight : of_note identity h (Back (entry_of d f)) ≡ h (card_of identity c) = rw (same.serial, same.token, same.place, is) in
-        omega (arith, so_far.told h, sum_by_push (of_note identity h) a.owed.items (Back (entry_of d f)), weight, sum_by_push (λ (e : Card × ℕ). h e.0) so_far.ended (card_of identity c, risen c.future.waits)));
+        omega (arith, so_far.told h, sum_by_push (of_note identity h) a.owed.items (Back (entry_of d f)), weight, sum_by_push (λ (e : Card × ℕ). h e.0) so_far.ended (card_of identity c, risen (wait_count c.future))));
     readies = let o = ap (λ q. readies q.items) owed in omega (arith, ap readies ends.owed, count_by-push_no is_ready m.owed.items (Back (entry_of d f)) refl, o, so_far.readies);
     parcels = ends.parcels ∙ parcels ∙ so_far.parcels;
     notes = ends.notes ∙ notes ∙ so_far.notes;

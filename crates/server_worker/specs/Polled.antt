@@ -5,6 +5,7 @@ use Rattle.service_core.specs.declared.ended.Ended.{Ended}
 use Rattle.server_worker.specs.Sound.{IsSound}
 use Rattle.service_core.specs.Counts.{risen}
 use Rattle.service_core.specs.Link.{Identity}
+use Rattle.service_core.specs.Shown.{wait_count}
 use Rattle.server_jobs.specs.Cards.{Card, card, of_note, of_parcel, of_waiting}
 use Rattle.server_worker.specs.Telling.{newly, readies}
 use Rattle.server_worker.specs.declared.connections.Connections.{Connections}
@@ -17,11 +18,11 @@ card_of identity c = card c.serial c.token c.place (identity c.given.value)
 module _ {L Fut : Type 0} (identity : L → Identity) where
   -- the weight of a live connection with the count of its waits
   abbrev pub as_it_is : (Card → ℕ → ℕ) → Live L Fut → ℕ
-  as_it_is h c = h (card_of identity c) c.future.waits
+  as_it_is h c = h (card_of identity c) (wait_count c.future)
 
   -- the same, with that count one higher
   abbrev pub once_polled : (Card → ℕ → ℕ) → Live L Fut → ℕ
-  once_polled h c = h (card_of identity c) (risen c.future.waits)
+  once_polled h c = h (card_of identity c) (risen (wait_count c.future))
 
 -- how far the polling has come: those from the place on were polled
 pub record PolledFrom {L E Fut : Type 0} (g : FutureOf Fut (Result (Ended L) E)) (may_stand : Fut → L → Type 0) (may_serve : ℕ → L → Ended L → Type 0) (may_leave : ℕ → L → L → Type 0)

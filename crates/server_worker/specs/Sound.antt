@@ -3,6 +3,7 @@ use Rattle.std.specs.Prelude.{◌≡◌, ◌<◌, ◌++◌, ⊤, ℕ, List, All,
 use Rattle.futures.specs.declared.future.Future.{Ghosts as FutureOf}
 use Rattle.rtrb.specs.Ring.{received, sent}
 use Rattle.service_core.specs.Meaning.{Within}
+use Rattle.service_core.specs.Shown.{watched_future}
 use Rattle.service_core.specs.declared.ended.Ended.{Ended}
 use Rattle.server_run.specs.Creating.{OnlyEnds}
 use Rattle.server_run.specs.Delivery.{ComesBack}
@@ -22,9 +23,9 @@ Waits parcels w = Contains parcels (Conn w.serial w.token w.place w.link)
 -- the future of a live connection gives only ends, and hands back only links, that a service of its token may for the link as it was given
 pub record Serves {L E Fut : Type 0} (g : FutureOf Fut (Result (Ended L) E)) (may_stand : Fut → L → Type 0)
     (may_serve : ℕ → L → Ended L → Type 0) (may_leave : ℕ → L → L → Type 0) (c : Live L Fut) : Type 0 where
-  pub pollable : g.can_poll c.future.future
-  pub gives : Within (g.gives c.future.future) (OnlyEnds (may_serve c.token c.given.value))
-  pub leaves : Within (may_stand c.future.future) (may_leave c.token c.given.value)
+  pub pollable : g.can_poll (watched_future c.future)
+  pub gives : Within (g.gives (watched_future c.future)) (OnlyEnds (may_serve c.token c.given.value))
+  pub leaves : Within (may_stand (watched_future c.future)) (may_leave c.token c.given.value)
 
 -- and it came so
 abbrev pub Lives : {L E Fut : Type 0} → FutureOf Fut (Result (Ended L) E) → (Fut → L → Type 0) → (ℕ → L → Ended L → Type 0) → (ℕ → L → L → Type 0)

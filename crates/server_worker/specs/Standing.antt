@@ -3,6 +3,7 @@ use Rattle.std.specs.Prelude.{◌<◌, ⊤, ℕ, List, length, Option, Some, Non
 use Rattle.futures.specs.declared.future.Future.{Ghosts as FutureOf}
 use Rattle.service_core.specs.Counts.{Rose}
 use Rattle.service_core.specs.Meaning.{Readiness, Within}
+use Rattle.service_core.specs.Shown.{wait_count, watched_future}
 use Rattle.service_core.specs.declared.ended.Ended.{Ended}
 use Rattle.service_core.specs.declared.service.Service.{Ghosts as ServiceOf}
 use Rattle.server_run.specs.Creating.{Stands}
@@ -19,13 +20,13 @@ MakesFor g may_stand may_serve may_leave may_ready may_init may_make (Err error)
 abbrev pub IsSlot : {S L E I Fut MFut : Type 0} → FutureOf MFut (Result S I) → ServiceOf S L (Ended L) E Fut → (Fut → L → Type 0)
     → (L → Ended L → Type 0) → (L → L → Type 0) → (Readiness E → Type 0) → (I → Type 0) → Type 0 → Slot MFut S → Type 0
 IsSlot mg g may_stand may_serve may_leave may_ready may_init may_make (Making future) =
-    mg.can_poll future.future × Within (mg.gives future.future) (MakesFor g may_stand may_serve may_leave may_ready may_init may_make)
+    mg.can_poll (watched_future future) × Within (mg.gives (watched_future future)) (MakesFor g may_stand may_serve may_leave may_ready may_init may_make)
 IsSlot mg g may_stand may_serve may_leave may_ready may_init may_make (Made service) = may_make × Stands g may_stand may_serve may_leave may_ready service
 
 -- the count of a creation future, 0 where there is none
 abbrev pub making_waits : {Fut S : Type 0} → Option (Slot Fut S) → ℕ
 making_waits None = 0
-making_waits (Some (Making future)) = future.waits
+making_waits (Some (Making future)) = wait_count future
 making_waits (Some (Made service)) = 0
 
 abbrev pub IsMade : {Fut S : Type 0} → Option (Slot Fut S) → Type 0
@@ -42,7 +43,7 @@ abbrev pub MadeOrWaits : {Fut S : Type 0} → Slot Fut S → Slot Fut S → Type
 MadeOrWaits (Made before) (Made service) = ⊤
 MadeOrWaits (Made before) (Making future) = ⊥
 MadeOrWaits (Making before) (Made service) = ⊤
-MadeOrWaits (Making before) (Making future) = Rose before.waits future.waits
+MadeOrWaits (Making before) (Making future) = Rose (wait_count before) (wait_count future)
 
 -- each slot is one of its token
 abbrev pub AreSlots : {S L E I Fut MFut : Type 0} → FutureOf MFut (Result S I) → ServiceOf S L (Ended L) E Fut → (Fut → L → Type 0)

@@ -6,6 +6,7 @@ ghost use Rattle.server_worker.specs.Sound.{IsSound, Serves};
 ghost use Rattle.server_worker.specs.Standing.{AllMade, AreSlots, IsMade, IsSlot};
 ghost use Rattle.server_worker.specs.declared.connections.Connections.{Connections};
 ghost use Rattle.server_run.specs.Creating.{Stands};
+ghost use Rattle.service_core.specs.Shown.{wait_count};
 
 use crate::connections::Connections;
 use crate::live::Live;
@@ -31,7 +32,7 @@ where
     ensures token { result.token ≡ waiting.token }
     ensures place { result.place ≡ waiting.place }
     ensures given { result.given.value ≡ waiting.link }
-    ensures fresh { result.future.waits ≡ 0 }
+    ensures fresh { wait_count result.future ≡ 0 }
 {
     let Waiting {
         serial,
@@ -79,10 +80,7 @@ fn admit_one<L, F>(
     slots: &Vec<
         Slot<<F::Factory as ServiceFactory<L>>::Future, <F::Factory as ServiceFactory<L>>::Service>,
     >,
-    hand: &mut Connections<
-        L,
-        <<F::Factory as ServiceFactory<L>>::Service as Service<L>>::Future,
-    >,
+    hand: &mut Connections<L, <<F::Factory as ServiceFactory<L>>::Service as Service<L>>::Future>,
 ) -> bool
 where
     L: Link,
@@ -111,10 +109,7 @@ pub(crate) fn admit<L, F>(
     slots: &Vec<
         Slot<<F::Factory as ServiceFactory<L>>::Future, <F::Factory as ServiceFactory<L>>::Service>,
     >,
-    hand: &mut Connections<
-        L,
-        <<F::Factory as ServiceFactory<L>>::Service as Service<L>>::Future,
-    >,
+    hand: &mut Connections<L, <<F::Factory as ServiceFactory<L>>::Service as Service<L>>::Future>,
 )
 where
     L: Link,

@@ -1,6 +1,7 @@
 //! How a worker polls its live connections.
 ghost use Rattle.std.specs.Prelude.{◌≡◌, ◌+◌, ◌≤◌, ◌<◌, ◌++◌, ◌∷◌, [], ℕ, vec_len, IfSome, IfNone, slice_index_or, swap_remove};
 ghost use Rattle.service_core.specs.Counts.{risen};
+ghost use Rattle.service_core.specs.Shown.{wait_count};
 ghost use Rattle.server_run.specs.Delivery.{ComesBack};
 ghost use Rattle.server_worker.specs.Polled.{PolledFrom};
 ghost use Rattle.server_worker.specs.Sound.{IsSound, Serves};
@@ -30,7 +31,7 @@ where
     requires serves { Serves F.Factory.Service.Future.Future F.Factory.Service.Future.may_stand (F.may_serve factory.now) (F.may_leave factory.now) live.old }
     ensures same { IsSameConnection live.old live.new }
     ensures serves { IfNone result (Serves F.Factory.Service.Future.Future F.Factory.Service.Future.may_stand (F.may_serve factory.now) (F.may_leave factory.now) live.new) }
-    ensures waits { IfNone result (live.new.future.waits ≡ risen live.old.future.waits) }
+    ensures waits { IfNone result (wait_count live.new.future ≡ risen (wait_count live.old.future)) }
     ensures back { IfSome result (λ f. ComesBack (F.may_serve factory.now live.old.token) (F.may_leave factory.now live.old.token) live.old.given.value f.link f.outcome) }
     ensures identity { IfSome result (λ f. L.identity f.link ≡ L.identity live.old.given.value) }
 {
@@ -71,10 +72,7 @@ impl<L: Link, Fut: Drop> Connections<L, Fut> {
 // Polls the live connection at a place, behind which all were polled.
 fn poll_at<L, F>(
     factory: &F,
-    hand: &mut Connections<
-        L,
-        <<F::Factory as ServiceFactory<L>>::Service as Service<L>>::Future,
-    >,
+    hand: &mut Connections<L, <<F::Factory as ServiceFactory<L>>::Service as Service<L>>::Future>,
     listeners: usize,
     at: usize,
     cx: &mut Context<'_>,
@@ -97,10 +95,7 @@ where
 // Polls each live connection once. Those that end are kept for handing back.
 pub(crate) fn poll_live<L, F>(
     factory: &F,
-    hand: &mut Connections<
-        L,
-        <<F::Factory as ServiceFactory<L>>::Service as Service<L>>::Future,
-    >,
+    hand: &mut Connections<L, <<F::Factory as ServiceFactory<L>>::Service as Service<L>>::Future>,
     listeners: usize,
     cx: &mut Context<'_>,
 )

@@ -75,7 +75,12 @@ where
     ensures factories { services.new.factories ≡ services.old.factories }
 {
     for token in 0..services.slots.len() {
-        let answer = ask(factory, service_of(factory, &services.slots, token), token, cx);
+        let answer = ask(
+            factory,
+            service_of(factory, &services.slots, token),
+            token,
+            cx,
+        );
         services.take_answer(token, answer);
     }
 }

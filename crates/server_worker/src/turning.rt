@@ -105,7 +105,10 @@ impl<L: Link, F: ServerServiceFactory<L>> Worker<L, F> {
     pub fn turn(
         &mut self,
         cx: &mut Context<'_>,
-    ) -> Turned<<F::Factory as ServiceFactory<L>>::Error, <F::Factory as ServiceFactory<L>>::InitError>
+    ) -> Turned<
+        <F::Factory as ServiceFactory<L>>::Error,
+        <F::Factory as ServiceFactory<L>>::InitError,
+    >
         requires works { Works F.Factory.Future.Future F.Factory.Service.Service F.Factory.Service.Future.Future F.Factory.Service.Future.may_stand
             (F.may_serve (factory_of self.old)) (F.may_leave (factory_of self.old)) (F.may_ready (factory_of self.old)) (F.may_init (factory_of self.old)) (F.may_make (factory_of self.old)) (services_of self.old) (hand_of self.old) }
         requires never_errs { (token : ℕ) (e : F.Factory.Error) → F.may_ready (factory_of self.old) token (PollReady (Err e)) → ⊥ }
@@ -162,7 +165,10 @@ impl<L: Link, F: ServerServiceFactory<L>> Worker<L, F> {
     fn come_to(
         &self,
         all: bool,
-    ) -> Turned<<F::Factory as ServiceFactory<L>>::Error, <F::Factory as ServiceFactory<L>>::InitError>
+    ) -> Turned<
+        <F::Factory as ServiceFactory<L>>::Error,
+        <F::Factory as ServiceFactory<L>>::InitError,
+    >
         ensures { ComesTo self.now.hand.stopped self.now.total all result }
     {
         if self.hand.stopped && self.total == 0 {

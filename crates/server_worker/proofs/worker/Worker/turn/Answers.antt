@@ -7,8 +7,10 @@ use Rattle.server_worker.proofs.worker.Worker.turn.Goals as goal
 
 pub serve_live-requires : goal.serve_live-requires
 serve_live-requires g c =
-    record { sound = sound_of_more g.F.Factory.Future.Future g.F.Factory.Service.Service g.F.Factory.Service.Future.Future g.F.Factory.Service.Future.LinkHolder.may_stand (g.F.ServerServiceFactory.may_serve c.args.self.now.factory) (g.F.ServerServiceFactory.may_leave c.args.self.now.factory) (g.F.ServerServiceFactory.may_ready c.args.self.now.factory) (g.F.ServerServiceFactory.may_init c.args.self.now.factory) (g.F.ServerServiceFactory.may_make c.args.self.now.factory)
-    _ _ _ _ _ (search rules) c.in-Some.ensures.as_many c.take-all.ensures.takes c.requires.works.connections }
+    record {
+      sound = sound_of_more g.F.Factory.Future.Future g.F.Factory.Service.Service g.F.Factory.Service.Future.Future g.F.Factory.Service.Future.LinkHolder.may_stand (g.F.ServerServiceFactory.may_serve c.args.self.now.factory) (g.F.ServerServiceFactory.may_leave c.args.self.now.factory) (g.F.ServerServiceFactory.may_ready c.args.self.now.factory) (g.F.ServerServiceFactory.may_init c.args.self.now.factory) (g.F.ServerServiceFactory.may_make c.args.self.now.factory)
+          _ _ _ _ _ (search rules) c.in-Some.ensures.as_many c.take-all.ensures.takes c.requires.works.connections;
+    }
 
 pub admit_ready-requires-clause-works : goal.admit_ready-requires-clause-works
 admit_ready-requires-clause-works g c =
