@@ -15,7 +15,7 @@ use Rattle.std.proofs.lemmas.List.Elements.{All-nil}
 use Rattle.futures.specs.declared.future.Future.{Ghosts as FutureOf}
 use Rattle.rtrb.specs.Ring.{received}
 use Rattle.server_worker.specs.Room.{IsFresh}
-use Rattle.server_worker.specs.Sound.{IsTold, Lives, Waits, WaitsFor}
+use Rattle.server_worker.specs.Sound.{IsTold, Lives, Strays, WaitsFor}
 use Rattle.server_worker.specs.Standing.{AreSlots, MakesFor}
 use Rattle.server_worker.specs.Turn.{Works}
 use Rattle.server_worker.specs.declared.connections.Connections.{Connections}
@@ -51,7 +51,7 @@ pub works_new : {L S Fac E I Fut MFut : Type 0} (mg : FutureOf MFut (Result S I)
 works_new mg sg g may_stand may_serve may_leave may_ready may_init may_make s hand made slots fresh = record {
   connections = record {
     queue = rw fresh.queue (All-nil (WaitsFor (length s.slots.items) (received hand.parcels)));
-    strays = rw fresh.strays (All-nil (Waits (received hand.parcels)));
+    strays = rw fresh.strays (All-nil (Strays (length s.slots.items) (received hand.parcels)));
     live = rw fresh.live (All-nil (Lives g may_stand may_serve may_leave (received hand.parcels)));
     owed = rw fresh.owed (All-nil (IsTold may_serve may_leave may_make (length s.slots.items) (received hand.parcels)));
   };

@@ -1,7 +1,6 @@
 -- One live connection more is polled.
-use Rattle.std.proofs.Common.{◌≡◌, Bool, false, ◌<◌, ℕ, ◌+◌, List, [], ◌∷◌, ◌++◌, length, take, drop, set, get_or, sum_by, Contains, Result, refl, sym, ◌∙◌, ap, arith, subst}
-use Rattle.std.specs.List.{count_by, swap_remove}
-use Rattle.std.specs.Prelude.{cond}
+use Rattle.std.proofs.Common.{◌≡◌, ◌<◌, ℕ, ◌+◌, [], ◌∷◌, ◌++◌, length, take, drop, set, get_or, sum_by, Contains, Result, refl, sym, ◌∙◌, ap, arith, subst}
+use Rattle.std.specs.List.{swap_remove}
 use Rattle.std.proofs.Math.ListN.{length-set}
 use Rattle.std.proofs.lemmas.List.{take-set, drop_all}
 use Rattle.std.proofs.lemmas.List.Sums.{sum_by_more, sum_by_push, sum_by-take-drop}
@@ -16,7 +15,6 @@ use Rattle.server_run.specs.Delivery.{ComesBack}
 use Rattle.server_jobs.specs.Cards.{Card, of_note}
 use Rattle.server_worker.specs.Ending.{EndsAt, IsSameConnection, entry_of}
 use Rattle.server_worker.specs.Polled.{PolledFrom, as_it_is, once_polled, card_of}
-use Rattle.server_worker.specs.Telling.{is_ready, readies}
 use Rattle.server_worker.specs.Sound.{Answers, IsSound, IsTold, Lives, Serves}
 use Rattle.server_worker.specs.declared.connections.Connections.{Connections}
 use Rattle.server_worker.specs.declared.finished.Finished.{Finished}
@@ -24,10 +22,6 @@ use Rattle.server_worker.specs.declared.live.Live.{Live}
 use Rattle.server_jobs.specs.declared.parcel.Parcel.TheVariants.{Conn}
 use Rattle.server_jobs.specs.declared.note.Note.TheVariants.{Back}
 use Rattle.server_worker.proofs.Places.{all_removed, length_removed, removed_before, removed_set, sum_from_removed, sum_from_set}
-
--- what fails the test adds nothing to a count
-count_by-push_no : {X : Type 0} (p : X → Bool) (xs : List X) (x : X) → p x ≡ false → count_by p (xs ++ x ∷ []) ≡ count_by p xs
-count_by-push_no p xs x fails = let w = ap {B = ℕ} (λ b. cond b 1 0) fails in omega (arith, sum_by_push (λ y. cond (p y) 1 0) xs x, w)
 
 -- none was polled yet
 pub polled_none : {L E Fut : Type 0} (g : FutureOf Fut (Result (Ended L) E)) (may_stand : Fut → L → Type 0) (may_serve : ℕ → L → Ended L → Type 0) (may_leave : ℕ → L → L → Type 0)
@@ -39,7 +33,7 @@ polled_none g may_stand may_serve may_leave may_make listeners identity a at is 
   ended = [];
   once = λ h. omega (arith, sum_by-take-drop (once_polled identity h) a.live.items at, ap (sum_by (once_polled identity h)) none, ap (sum_by (as_it_is identity h)) none);
   told = λ h. omega arith;
-  readies = refl;
+  signals = λ f none. refl;
   parcels = refl;
   notes = refl;
   queue = refl;
@@ -85,7 +79,7 @@ module _ {L E Fut : Type 0} (g : FutureOf Fut (Result (Ended L) E)) (may_stand :
         let counted : as_it_is identity h d ≡ once_polled identity h c = rw (same_card, waits) in
         omega (arith, before h, sum_from_set (as_it_is identity h) a.live.items at c d inside, so_far.once h, counted));
     told = λ h. rw owed (so_far.told h);
-    readies = ap (λ q. readies q.items) owed ∙ so_far.readies;
+    signals = λ f nothing. ap (λ q. sum_by f q.items) owed ∙ so_far.signals f nothing;
     parcels = parcels ∙ so_far.parcels;
     notes = notes ∙ so_far.notes;
     queue = queue ∙ so_far.queue;
@@ -113,7 +107,9 @@ module _ {L E Fut : Type 0} (g : FutureOf Fut (Result (Ended L) E)) (may_stand :
     told = λ h. rw (ends.owed, owed) (
         let weight : of_note identity h (Back (entry_of d f)) ≡ h (card_of identity c) = rw (same.serial, same.token, same.place, is) in
         omega (arith, so_far.told h, sum_by_push (of_note identity h) a.owed.items (Back (entry_of d f)), weight, sum_by_push (λ (e : Card × ℕ). h e.0) so_far.ended (card_of identity c, risen (wait_count c.future))));
-    readies = let o = ap (λ q. readies q.items) owed in omega (arith, ap readies ends.owed, count_by-push_no is_ready m.owed.items (Back (entry_of d f)) refl, o, so_far.readies);
+    signals = λ weigh nothing.
+        let o = ap (λ q. sum_by weigh q.items) owed in
+        omega (arith, ap (sum_by weigh) ends.owed, sum_by_push weigh m.owed.items (Back (entry_of d f)), nothing (entry_of d f), o, so_far.signals weigh nothing);
     parcels = ends.parcels ∙ parcels ∙ so_far.parcels;
     notes = ends.notes ∙ notes ∙ so_far.notes;
     queue = ends.queue ∙ queue ∙ so_far.queue;

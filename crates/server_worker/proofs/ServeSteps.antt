@@ -1,6 +1,5 @@
 -- The live connections were polled, and what ended was posted.
 use Rattle.std.proofs.Common.{◌≡◌, Bool, true, false, true≢false, ◌++◌, ◌∷◌, [], ℕ, ◌+◌, List, All, Result, take, drop, sum_by, refl, sym, ◌∙◌, ap, arith, subst}
-use Rattle.std.specs.Prelude.{cond}
 use Rattle.std.proofs.lemmas.List.Sums.{sum_by-append}
 use Rattle.std.proofs.lemmas.List.Elements.{All-nil, All-cons, All-head, All-tail}
 use Rattle.futures.specs.declared.future.Future.{Ghosts as FutureOf}
@@ -10,7 +9,7 @@ use Rattle.service_core.specs.Link.{Identity}
 use Rattle.service_core.specs.declared.ended.Ended.{Ended}
 use Rattle.server_jobs.specs.Cards.{Card, of_note, of_parcel, of_waiting}
 use Rattle.server_worker.specs.Holding.{Accounts, of_live}
-use Rattle.server_worker.specs.Telling.{TellsNoReady, TellsReady, is_ready, newly, readies}
+use Rattle.server_worker.specs.Telling.{TellsNoReady, TellsReady, newly}
 use Rattle.server_worker.specs.Polled.{Admits, OwesMore, PolledFrom, PollsLive, as_it_is, handed, once_polled, queued}
 use Rattle.server_worker.specs.Posted.{Posts}
 use Rattle.server_worker.specs.Sound.{IsSound, IsTold, Tells}
@@ -18,7 +17,7 @@ use Rattle.server_worker.specs.Standing.{AllMade}
 use Rattle.server_worker.specs.Taken.{Takes}
 use Rattle.server_worker.specs.declared.connections.Connections.{Connections}
 use Rattle.server_worker.specs.declared.slot.Slot.{Slot}
-use Rattle.server_jobs.specs.declared.note.Note.{Note}
+use Rattle.server_jobs.specs.declared.note.Note.TheVariants.{Ready}
 use Rattle.server_worker.proofs.Accounting.{accounts_trans}
 
 pub all_left : {X : Type 0} (P : X → Type 0) (xs ys : List X) → All P (xs ++ ys) → All P xs
@@ -61,10 +60,9 @@ module _ {L E Fut : Type 0} (g : FutureOf Fut (Result (Ended L) E)) (may_stand :
 
   pub serves_no_ready : TellsNoReady a b
   serves_no_ready = record {
-    count =
-        let weight : Note L → ℕ = λ n. cond (is_ready n) 1 0 in
-        let n = ap (λ p. readies (sent p)) polled.notes in
-        omega (arith, polled.readies, n, ap readies posts.appended, ap readies posts.kept, sum_by-append weight (sent m.notes) posts.more, sum_by-append weight posts.more b.owed.items);
+    count = λ f nothing.
+        let n = ap (λ p. sum_by f (sent p)) polled.notes in
+        omega (arith, polled.signals f nothing, n, ap (sum_by f) posts.appended, ap (sum_by f) posts.kept, sum_by-append f (sent m.notes) posts.more, sum_by-append f posts.more b.owed.items);
     told = posts.told_ready ∙ polled.told_ready;
   }
 
@@ -89,22 +87,22 @@ module _ {L E Fut : Type 0} (g : FutureOf Fut (Result (Ended L) E)) (may_stand :
       told : All (IsTold may_serve may_leave may_make listeners (received b.parcels)) (posts.more ++ b.owed.items)
       told = rw posts.parcels (subst (All (IsTold may_serve may_leave may_make listeners (received m.parcels))) posts.kept polled.sound.owed)
 
-newly_same : (b : Bool) → newly b b ≡ 0
-newly_same true = refl
-newly_same false = refl
+newly_same : (n : ℕ) (b : Bool) → newly n b b ≡ 0
+newly_same n true = refl
+newly_same n false = refl
 
 module _ {L Fut MFut S : Type 0} (listeners : ℕ) (slots : List (Slot MFut S)) where
   -- that all services stand was told by what is owed, or was told before, or is not told
   pub turn_ready : {identity : L → Identity} (a b c d e : Connections L Fut) → Takes listeners a b → Admits identity b c → OwesMore identity c d → TellsNoReady d e
       → (c.told ≡ false → d.told ≡ true → AllMade slots) → TellsReady slots a e
   turn_ready a b c d e takes admits owes none stand = record {
-    once =
-        let n = ap (λ p. readies (sent p)) (owes.notes ∙ admits.notes ∙ takes.notes) in
-        let o = ap (λ q. readies q.items) admits.owed in
-        let t = ap readies takes.owed in
-        let m = ap (λ x. newly x d.told) same in
-        let k = ap (λ x. newly a.told x) none.told in
-        omega (arith, none.count, owes.readies, n, o, t, m, k);
+    once = λ f nothing.
+        let n = ap (λ p. sum_by f (sent p)) (owes.notes ∙ admits.notes ∙ takes.notes) in
+        let o = ap (λ q. sum_by f q.items) admits.owed in
+        let t = ap (sum_by f) takes.owed in
+        let m = ap (λ x. newly (f Ready) x d.told) same in
+        let k = ap (λ x. newly (f Ready) a.told x) none.told in
+        omega (arith, none.count f nothing, owes.signals f, n, o, t, m, k);
     stays = λ was. none.told ∙ owes.told_ready (same ∙ was);
     stand = λ was is. stand (same ∙ was) (sym none.told ∙ is);
   }
@@ -115,11 +113,11 @@ module _ {L Fut MFut S : Type 0} (listeners : ℕ) (slots : List (Slot MFut S)) 
   -- nothing of it was told
   pub turn_no_ready : (a b e : Connections L Fut) → Takes listeners a b → TellsNoReady b e → TellsReady slots a e
   turn_no_ready a b e takes none = record {
-    once =
-        let n = ap (λ p. readies (sent p)) takes.notes in
-        let t = ap readies takes.owed in
-        let m = ap (λ x. newly a.told x) same in
-        omega (arith, none.count, n, t, m, newly_same a.told);
+    once = λ f nothing.
+        let n = ap (λ p. sum_by f (sent p)) takes.notes in
+        let t = ap (sum_by f) takes.owed in
+        let m = ap (λ x. newly (f Ready) a.told x) same in
+        omega (arith, none.count f nothing, n, t, m, newly_same (f Ready) a.told);
     stays = λ was. same ∙ was;
     stand = λ was is. absurd (true≢false (sym is ∙ same ∙ was));
   }

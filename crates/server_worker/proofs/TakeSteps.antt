@@ -1,5 +1,5 @@
 -- Takings, one behind the other.
-use Rattle.std.proofs.Common.{◌≡◌, Bool, true, false, ◌<◌, ◌++◌, ◌∷◌, [], ℕ, List, All, Contains, refl, sym, ◌∙◌, ap, append_assoc, subst, Result}
+use Rattle.std.proofs.Common.{◌≤◌, ◌≡◌, Bool, true, false, ◌<◌, ◌++◌, ◌∷◌, [], ℕ, List, All, Contains, refl, sym, ◌∙◌, ap, append_assoc, subst, Result}
 use Rattle.std.specs.Prelude.{◌||◌}
 use Rattle.std.specs.List.{list_any}
 use Rattle.std.proofs.lemmas.List.{append-nil}
@@ -8,8 +8,8 @@ use Rattle.std.proofs.lemmas.List.Elements.{All-nil, All-append, All-cons, Conta
 use Rattle.futures.specs.declared.future.Future.{Ghosts as FutureOf}
 use Rattle.rtrb.specs.Ring.{received}
 use Rattle.service_core.specs.declared.ended.Ended.{Ended}
-use Rattle.server_worker.specs.Sound.{IsSound, IsTold, Lives, Waits, WaitsFor}
-use Rattle.server_worker.specs.Taken.{Grows, Receives, Takes, is_stop}
+use Rattle.server_worker.specs.Sound.{IsSound, IsTold, Lives, Strays, Waits, WaitsFor}
+use Rattle.server_worker.specs.Taken.{Grows, Queues, Receives, Takes, is_stop}
 use Rattle.server_jobs.specs.declared.parcel.Parcel.TheVariants.{Conn, Stop}
 use Rattle.server_worker.specs.declared.connections.Connections.{Connections}
 use Rattle.server_worker.specs.declared.live.Live.{Live}
@@ -37,8 +37,8 @@ module _ {L : Type 0} (before more after : List (Parcel L)) (is : after ≡ befo
   onward : (p : Parcel L) → Contains before p → Contains after p
   onward p has = subst (λ ps. Contains ps p) (sym is) (Contains-append_left before more p has)
 
-  waits_onward : (w : Waiting L) → Waits before w → Waits after w
-  waits_onward w has = onward _ has
+  strays_onward : (listeners : ℕ) (w : Waiting L) → Strays listeners before w → Strays listeners after w
+  strays_onward listeners w has = (has.0, onward _ has.1)
 
   waits_for_onward : (listeners : ℕ) (w : Waiting L) → WaitsFor listeners before w → WaitsFor listeners after w
   waits_for_onward listeners w has = (has.0, onward _ has.1)
@@ -125,8 +125,8 @@ module _ {L Fut : Type 0} (listeners : ℕ) (a b : Connections L Fut) (live : b.
       told_ready = told;
     }
 
-    pub takes_strayed : b.queue.items ≡ a.queue.items → b.strays.items ≡ a.strays.items ++ w ∷ [] → Takes listeners a b
-    takes_strayed queue strays = record {
+    pub takes_strayed : b.queue.items ≡ a.queue.items → b.strays.items ≡ a.strays.items ++ w ∷ [] → listeners ≤ w.token → Takes listeners a b
+    takes_strayed queue strays unknown = record {
       more = Conn w.serial w.token w.place w.link ∷ [];
       came = came;
       stopped = stopped ∙ or_none a.stopped;
@@ -135,7 +135,7 @@ module _ {L Fut : Type 0} (listeners : ℕ) (a b : Connections L Fut) (live : b.
       each_queued = All-nil _;
       strayed = w ∷ [];
       strays = strays;
-      each_strayed = All-cons (Waits (received b.parcels)) w [] has_come (All-nil _);
+      each_strayed = All-cons (Strays listeners (received b.parcels)) w [] (unknown, has_come) (All-nil _);
       live = live;
       owed = owed;
       notes = notes;
@@ -152,7 +152,7 @@ takes_trans {L} {Fut} {listeners} {a} {b} {c} p q = record {
   each_queued = All-append (WaitsFor listeners (received c.parcels)) p.queued q.queued (all_map (WaitsFor listeners (received b.parcels)) (WaitsFor listeners (received c.parcels)) p.queued (waits_for_onward (received b.parcels) q.more (received c.parcels) q.came listeners) p.each_queued) q.each_queued;
   strayed = p.strayed ++ q.strayed;
   strays = q.strays ∙ ap (λ xs. xs ++ q.strayed) p.strays ∙ append_assoc a.strays.items p.strayed q.strayed;
-  each_strayed = All-append (Waits (received c.parcels)) p.strayed q.strayed (all_map (Waits (received b.parcels)) (Waits (received c.parcels)) p.strayed (waits_onward (received b.parcels) q.more (received c.parcels) q.came) p.each_strayed) q.each_strayed;
+  each_strayed = All-append (Strays listeners (received c.parcels)) p.strayed q.strayed (all_map (Strays listeners (received b.parcels)) (Strays listeners (received c.parcels)) p.strayed (strays_onward (received b.parcels) q.more (received c.parcels) q.came listeners) p.each_strayed) q.each_strayed;
   live = q.live ∙ p.live;
   owed = q.owed ∙ p.owed;
   notes = q.notes ∙ p.notes;
@@ -165,8 +165,8 @@ pub sound_taken : {L E Fut : Type 0} (g : FutureOf Fut (Result (Ended L) E)) (ma
 sound_taken g may_stand may_serve may_leave may_make listeners a b t sound = record {
   queue = subst (All (WaitsFor listeners (received b.parcels))) (sym t.queue)
       (All-append (WaitsFor listeners (received b.parcels)) a.queue.items t.queued (all_map (WaitsFor listeners (received a.parcels)) (WaitsFor listeners (received b.parcels)) a.queue.items (waits_for_onward (received a.parcels) t.more (received b.parcels) t.came listeners) sound.queue) t.each_queued);
-  strays = subst (All (Waits (received b.parcels))) (sym t.strays)
-      (All-append (Waits (received b.parcels)) a.strays.items t.strayed (all_map (Waits (received a.parcels)) (Waits (received b.parcels)) a.strays.items (waits_onward (received a.parcels) t.more (received b.parcels) t.came) sound.strays) t.each_strayed);
+  strays = subst (All (Strays listeners (received b.parcels))) (sym t.strays)
+      (All-append (Strays listeners (received b.parcels)) a.strays.items t.strayed (all_map (Strays listeners (received a.parcels)) (Strays listeners (received b.parcels)) a.strays.items (strays_onward (received a.parcels) t.more (received b.parcels) t.came listeners) sound.strays) t.each_strayed);
   live = subst (All (Lives g may_stand may_serve may_leave (received b.parcels))) (sym t.live)
       (all_map (Lives g may_stand may_serve may_leave (received a.parcels)) (Lives g may_stand may_serve may_leave (received b.parcels)) a.live.items (lives_onward (received a.parcels) t.more (received b.parcels) t.came may_serve may_leave g may_stand) sound.live);
   owed = subst (All (IsTold may_serve may_leave may_make listeners (received b.parcels))) (sym t.owed)
@@ -176,3 +176,7 @@ sound_taken g may_stand may_serve may_leave may_make listeners a b t sound = rec
 -- what was taken was received, and stays so
 pub receives_taken : {L Fut : Type 0} (listeners : ℕ) (a b c : Connections L Fut) → Takes listeners a b → c.parcels ≡ b.parcels → c.stopped ≡ b.stopped → Receives a c
 receives_taken listeners a b c takes parcels stopped = record { more = takes.more; came = ap (λ p. received p) parcels ∙ takes.came; stopped = stopped ∙ takes.stopped }
+
+-- what was taken went behind the queue, and stays there
+pub queues_taken : {L Fut : Type 0} (listeners : ℕ) (a b c : Connections L Fut) → Takes listeners a b → c.queue.items ≡ b.queue.items → Queues a c
+queues_taken listeners a b c takes same = record { more = takes.queued; appended = same ∙ takes.queue }

@@ -7,7 +7,9 @@ use Rattle.service_core.specs.Counts.{risen}
 use Rattle.service_core.specs.Link.{Identity}
 use Rattle.service_core.specs.Shown.{wait_count}
 use Rattle.server_jobs.specs.Cards.{Card, card, of_note, of_parcel, of_waiting}
-use Rattle.server_worker.specs.Telling.{newly, readies}
+use Rattle.server_jobs.specs.declared.note.Note.{Note}
+use Rattle.server_jobs.specs.declared.note.Note.TheVariants.{Ready}
+use Rattle.server_worker.specs.Telling.{WeighsSignals, newly}
 use Rattle.server_worker.specs.declared.connections.Connections.{Connections}
 use Rattle.rtrb.specs.Ring.{received, sent}
 use Rattle.server_worker.specs.declared.live.Live.{Live}
@@ -33,7 +35,7 @@ pub record PolledFrom {L E Fut : Type 0} (g : FutureOf Fut (Result (Ended L) E))
   pub once : (h : Card → ℕ → ℕ) → sum_by (once_polled identity h) (take at b.live.items) + (sum_by (as_it_is identity h) (drop at b.live.items) + sum_by (λ e. h e.0 e.1) ended)
       ≡ sum_by (once_polled identity h) a.live.items
   pub told : (h : Card → ℕ) → sum_by (of_note identity h) a.owed.items + sum_by (λ e. h e.0) ended ≡ sum_by (of_note identity h) b.owed.items
-  pub readies : readies b.owed.items ≡ readies a.owed.items
+  pub signals : (f : Note L → ℕ) → WeighsSignals f → sum_by f b.owed.items ≡ sum_by f a.owed.items
   pub parcels : b.parcels ≡ a.parcels
   pub notes : b.notes ≡ a.notes
   pub queue : b.queue ≡ a.queue
@@ -76,7 +78,7 @@ pub record PollsLive {L Fut : Type 0} (identity : L → Identity) (a b : Connect
 -- The note that all services stand was added to what is owed, or none.
 pub record OwesMore {L Fut : Type 0} (identity : L → Identity) (a b : Connections L Fut) : Type 0 where
   pub once : (h : Card → ℕ) → sum_by (of_note identity h) b.owed.items ≡ sum_by (of_note identity h) a.owed.items
-  pub readies : readies b.owed.items ≡ readies a.owed.items + newly a.told b.told
+  pub signals : (f : Note L → ℕ) → sum_by f b.owed.items ≡ sum_by f a.owed.items + newly (f Ready) a.told b.told
   pub told_ready : a.told ≡ true → b.told ≡ true
   pub parcels : b.parcels ≡ a.parcels
   pub notes : b.notes ≡ a.notes

@@ -1,5 +1,5 @@
 -- What is known of each connection at a worker: where it came from, and what may become of it.
-use Rattle.std.specs.Prelude.{◌≡◌, ◌<◌, ◌++◌, ⊤, ℕ, List, All, Contains, Result}
+use Rattle.std.specs.Prelude.{◌≡◌, ◌<◌, ◌≤◌, ◌++◌, ⊤, ℕ, List, All, Contains, Result}
 use Rattle.futures.specs.declared.future.Future.{Ghosts as FutureOf}
 use Rattle.rtrb.specs.Ring.{received, sent}
 use Rattle.service_core.specs.Meaning.{Within}
@@ -49,11 +49,15 @@ IsTold may_serve may_leave may_make listeners parcels Faulted = ⊤
 abbrev pub WaitsFor : {L : Type 0} → ℕ → List (Parcel L) → Waiting L → Type 0
 WaitsFor listeners parcels w = (w.token < listeners) × Waits parcels w
 
--- all of this, for each connection that is queued, live or kept for handing back
+-- there is no service for a stray
+abbrev pub Strays : {L : Type 0} → ℕ → List (Parcel L) → Waiting L → Type 0
+Strays listeners parcels w = (listeners ≤ w.token) × Waits parcels w
+
+-- all of this, for each connection that is queued, of no listener, live or kept for handing back
 pub record IsSound {L E Fut : Type 0} (g : FutureOf Fut (Result (Ended L) E)) (may_stand : Fut → L → Type 0)
     (may_serve : ℕ → L → Ended L → Type 0) (may_leave : ℕ → L → L → Type 0) (may_make : ℕ → Type 0) (listeners : ℕ) (w : Connections L Fut) : Type 0 where
   pub queue : All (WaitsFor listeners (received w.parcels)) w.queue.items
-  pub strays : All (Waits (received w.parcels)) w.strays.items
+  pub strays : All (Strays listeners (received w.parcels)) w.strays.items
   pub live : All (Lives g may_stand may_serve may_leave (received w.parcels)) w.live.items
   pub owed : All (IsTold may_serve may_leave may_make listeners (received w.parcels)) w.owed.items
 

@@ -2,7 +2,7 @@
 use Rattle.std.specs.Prelude.{◌≡◌, ◌++◌, ◌||◌, ℕ, Bool, true, false, List, All}
 use Rattle.std.specs.List.{list_any}
 use Rattle.rtrb.specs.Ring.{received}
-use Rattle.server_worker.specs.Sound.{Waits, WaitsFor}
+use Rattle.server_worker.specs.Sound.{Strays, WaitsFor}
 use Rattle.server_worker.specs.declared.connections.Connections.{Connections}
 use Rattle.server_jobs.specs.declared.parcel.Parcel.{Parcel}
 use Rattle.server_jobs.specs.declared.parcel.Parcel.TheVariants.{Conn, Stop}
@@ -28,7 +28,7 @@ pub record Takes {L Fut : Type 0} (listeners : ℕ) (a b : Connections L Fut) : 
   pub each_queued : All (WaitsFor listeners (received b.parcels)) queued
   pub strayed : List (Waiting L)
   pub strays : b.strays.items ≡ a.strays.items ++ strayed
-  pub each_strayed : All (Waits (received b.parcels)) strayed
+  pub each_strayed : All (Strays listeners (received b.parcels)) strayed
   pub live : b.live.items ≡ a.live.items
   pub owed : b.owed.items ≡ a.owed.items
   pub notes : b.notes ≡ a.notes
@@ -44,3 +44,8 @@ pub record Grows {L Fut : Type 0} (a b : Connections L Fut) : Type 0 where
   pub owed : b.owed.items ≡ a.owed.items
   pub stopped : b.stopped ≡ a.stopped
   pub told_ready : b.told ≡ a.told
+
+-- more came behind the queue, and nothing left it
+pub record Queues {L Fut : Type 0} (a b : Connections L Fut) : Type 0 where
+  pub more : List (Waiting L)
+  pub appended : b.queue.items ≡ a.queue.items ++ more

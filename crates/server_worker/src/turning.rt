@@ -11,7 +11,7 @@ ghost use Rattle.server_worker.specs.Holding.{Accounts};
 ghost use Rattle.server_worker.specs.Polled.{Admits, OwesMore, PollsLive};
 ghost use Rattle.server_worker.specs.Sound.{IsSound, Tells};
 ghost use Rattle.server_worker.specs.Standing.{AllMade};
-ghost use Rattle.server_worker.specs.Taken.{Receives};
+ghost use Rattle.server_worker.specs.Taken.{Queues, Receives};
 ghost use Rattle.server_worker.specs.Telling.{TellsNoReady, TellsReady};
 ghost use Rattle.server_worker.specs.Turn.{ComesTo, GoesOn, IsGoing, Works};
 ghost use Rattle.server_worker.specs.Workers.{core_of, factory_of, hand_of, held_by, listeners_of, made_of, parcels_of, queue_of, services_of, slots_of, stopped_of, told_of, total_of};
@@ -43,6 +43,7 @@ impl<L: Link, F: ServerServiceFactory<L>> Worker<L, F> {
         ensures unmade { self.new.services.made ≡ false → ¬ AllMade self.new.services.slots.items }
         ensures asks { AsksUpTo (F.may_ready self.new.factory) self.old.services.core self.new.services.core (cond self.new.services.made (length self.new.services.slots.items) 0) }
         ensures all { self.new.services.made ≡ true → state_of self.new.services.core ≡ state.Available → self.new.hand.queue.items ≡ [] }
+        ensures none { (self.new.services.made ≡ true → state_of self.new.services.core ≡ state.Available → ⊥) → self.new.hand.queue.items ≡ self.old.hand.queue.items }
     {
         if !self.services.stand() {
             return;
@@ -131,9 +132,11 @@ impl<L: Link, F: ServerServiceFactory<L>> Worker<L, F> {
         // Each live connection is polled once.
         ensures polls { PollsLive L.identity (hand_of self.old) (hand_of self.new) }
 
-        // Once all services stand each is asked, once. Where every one is available, no connection that has one stays in the queue.
+        // Once all services stand each is asked, once. Where every one is available, no connection that has one stays in the queue;
+        // and else none is admitted.
         ensures asks { AsksUpTo (F.may_ready (factory_of self.new)) (core_of self.old) (core_of self.new) (cond (made_of self.new) (listeners_of self.new) 0) }
         ensures admits { IsGoing result → made_of self.new ≡ true → state_of (core_of self.new) ≡ state.Available → queue_of self.new ≡ [] }
+        ensures waits { (made_of self.new ≡ true → state_of (core_of self.new) ≡ state.Available → ⊥) → Queues (hand_of self.old) (hand_of self.new) }
 
         // It goes on only where it waits for something.
         ensures going { IsGoing result → GoesOn (F.may_ready (factory_of self.new)) (slots_of self.old) (services_of self.new) (hand_of self.new) }

@@ -6,7 +6,7 @@ pub returns-then-token-listeners-clause-takes : goal.returns-then-token-listener
 returns-then-token-listeners-clause-takes g c = takes_queued _ _ _ refl refl refl refl _ refl (search rules) c.push_back_reserved.ensures.items refl (search rules)
 
 pub returns-else-token-listeners-clause-takes : goal.returns-else-token-listeners-clause-takes
-returns-else-token-listeners-clause-takes g c = takes_strayed _ _ _ refl refl refl refl _ refl (search rules) refl c.push_reserved.ensures.items
+returns-else-token-listeners-clause-takes g c = takes_strayed _ _ _ refl refl refl refl _ refl (search rules) refl c.push_reserved.ensures.items (search rules)
 
 pub returns-in-Stop-clause-takes : goal.returns-in-Stop-clause-takes
 returns-in-Stop-clause-takes g c = takes_stop _ _ _ refl refl refl refl c.in-Stop.graceful (search rules) refl refl refl

@@ -1,6 +1,7 @@
-use Rattle.std.proofs.Common.{◌∙◌, refl, rules}
+use Rattle.worker_core.specs.WorkerCore.{state_of}
+use Rattle.std.proofs.Common.{ap, ◌∙◌, refl, rules}
 use Rattle.server_worker.proofs.AskSteps.{asks_unmade, is_unset}
-use Rattle.server_worker.proofs.TakeSteps.{receives_taken}
+use Rattle.server_worker.proofs.TakeSteps.{queues_taken, receives_taken}
 use Rattle.server_worker.proofs.ServeSteps.{turn_accounts, turn_no_ready, turn_polls, turn_ready}
 use Rattle.server_worker.proofs.WorkSteps.{sound_of_more, works_made}
 use Rattle.server_worker.proofs.worker.Worker.turn.Goals as goal
@@ -37,3 +38,13 @@ returns-in-Some-clause-ready g c = turn_no_ready _ _ _ _ _ c.take-all.ensures.ta
 
 pub returns-in-Some-clause-asks : goal.returns-in-Some-clause-asks
 returns-in-Some-clause-asks g c = asks_unmade _ _ _ _ _ c.serve_live.ensures.core (c.serve_live.ensures.made ∙ is_unset c.args.self.now.services.made _ c.requires.works.made c.in-Some.ensures.unmade)
+
+pub returns-in-Some-clause-waits : goal.returns-in-Some-clause-waits
+returns-in-Some-clause-waits g c not_ready = queues_taken _ _ _ _ c.take-all.ensures.takes (ap (λ q. q.items) c.serve_live.ensures.queue)
+
+pub returns-in-None-clause-waits : goal.returns-in-None-clause-waits
+returns-in-None-clause-waits g c not_ready = queues_taken _ _ _ _ c.take-all.ensures.takes
+    (ap (λ q. q.items) (c.serve_live-in-None.ensures.queue ∙ c.tell_ready.ensures.owes.queue)
+    ∙ c.admit_ready.ensures.none (λ made available. not_ready
+    (c.serve_live-in-None.ensures.made ∙ ap (λ s. s.made) c.tell_ready.ensures.services ∙ made)
+    (ap state_of (c.serve_live-in-None.ensures.core ∙ ap (λ s. s.core) c.tell_ready.ensures.services) ∙ available)))
