@@ -1,9 +1,9 @@
 //! How a worker admits those that wait.
-ghost use Rattle.std.specs.Prelude.{◌≡◌, ◌+◌, ◌≤◌, ◌<◌, ◌++◌, ◌∷◌, [], ℕ, length, vec_len, vec_capacity, IsTrue, IsFalse, IfSome, slice_get};
+ghost use Rattle.std.specs.Prelude.{◌≡◌, ◌+◌, ◌<◌, [], length, IsTrue, IsFalse};
 ghost use Rattle.std.specs.VecDeque.{deque_len};
 ghost use Rattle.server_worker.specs.Polled.{Admits};
 ghost use Rattle.server_worker.specs.Sound.{IsSound, Serves};
-ghost use Rattle.server_worker.specs.Standing.{AllMade, AreSlots, IsMade, IsSlot};
+ghost use Rattle.server_worker.specs.Standing.{AllMade, AreSlots};
 ghost use Rattle.server_worker.specs.declared.connections.Connections.{Connections};
 ghost use Rattle.server_run.specs.Creating.{Stands};
 ghost use Rattle.service_core.specs.Shown.{wait_count};

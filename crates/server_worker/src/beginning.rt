@@ -1,5 +1,5 @@
 //! How a worker begins.
-ghost use Rattle.std.specs.Prelude.{◌≡◌, ◌≤◌, ◌<◌, ℕ, false, length, IfOk, IfErr};
+ghost use Rattle.std.specs.Prelude.{◌≡◌, ◌≤◌, ◌<◌, false, length, IfOk, IfErr};
 ghost use Rattle.server_worker.specs.Room.{IsFresh};
 ghost use Rattle.server_worker.specs.Standing.{AreSlots, IsSlot};
 ghost use Rattle.server_worker.specs.Turn.{Works};

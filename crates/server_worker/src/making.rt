@@ -1,10 +1,6 @@
 //! How a worker makes its services, and asks whether they are ready.
-ghost use Rattle.std.specs.Prelude.{◌≡◌, ◌≢◌, ◌≤◌, ◌<◌, ◌+◌, ◌⊎◌, ⊤, ℕ, [], length, slice_get, slice_set, vec_len, IfSome, IfNone, IsTrue, IsFalse, true, false, Err};
-ghost use Rattle.futures.specs.declared.task.Poll.TheVariants.{Ready as PollReady, Pending as PollPending};
-ghost use Rattle.worker_core.specs.WorkerCore.{status_of};
-ghost use Rattle.worker_core.specs.declared.service_status.ServiceStatus.TheVariants as status;
-ghost use Rattle.service_core.specs.Counts.{Rose};
-ghost use Rattle.server_worker.specs.Standing.{AllMade, AreSlots, IsMade, IsSlot, making_waits, AtSlot, MadeOrWaits};
+ghost use Rattle.std.specs.Prelude.{◌≡◌, ◌<◌, ℕ, length, slice_get, IfSome, IfNone, IsTrue, IsFalse, true, false, Err};
+ghost use Rattle.server_worker.specs.Standing.{AllMade, AreSlots, IsMade, IsSlot, AtSlot, MadeOrWaits};
 
 use crate::services::Services;
 use crate::slot::Slot;

@@ -1,12 +1,11 @@
 //! How a worker polls its live connections.
-ghost use Rattle.std.specs.Prelude.{◌≡◌, ◌+◌, ◌≤◌, ◌<◌, ◌++◌, ◌∷◌, [], ℕ, vec_len, IfSome, IfNone, slice_index_or, swap_remove};
+ghost use Rattle.std.specs.Prelude.{◌≡◌, ◌+◌, ◌<◌, vec_len, IfSome, IfNone, slice_index_or};
 ghost use Rattle.service_core.specs.Counts.{risen};
 ghost use Rattle.service_core.specs.Shown.{wait_count};
 ghost use Rattle.server_run.specs.Delivery.{ComesBack};
 ghost use Rattle.server_worker.specs.Polled.{PolledFrom};
 ghost use Rattle.server_worker.specs.Sound.{IsSound, Serves};
 ghost use Rattle.server_worker.specs.Ending.{EndsAt, IsSameConnection};
-ghost use Rattle.server_jobs.specs.declared.note.Note.TheVariants.{Back};
 ghost use Rattle.server_worker.specs.declared.connections.Connections.{Connections};
 ghost use Rattle.server_worker.specs.declared.live.Live.{Live};
 

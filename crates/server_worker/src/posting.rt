@@ -1,5 +1,5 @@
 //! How a worker hands back what it is done with.
-ghost use Rattle.std.specs.Prelude.{◌≡◌, ◌+◌, ◌≤◌, ◌<◌, ◌⊎◌, ℕ, [], vec_len, IsTrue, IsFalse};
+ghost use Rattle.std.specs.Prelude.{◌≡◌, ◌+◌, ◌<◌, ◌⊎◌, [], vec_len, IsTrue, IsFalse};
 ghost use Rattle.std.specs.VecDeque.{deque_len};
 ghost use Rattle.rtrb.specs.Ring.{known_free};
 ghost use Rattle.server_worker.specs.Posted.{Posts};

@@ -1,8 +1,7 @@
 //! How a worker asks its services whether they are ready.
-ghost use Rattle.std.specs.Prelude.{◌≡◌, ◌≢◌, ◌≤◌, ◌<◌, ◌+◌, ◌⊎◌, ⊤, ℕ, length, IsTrue, true, false, Err};
-ghost use Rattle.futures.specs.declared.task.Poll.TheVariants.{Ready as PollReady, Pending as PollPending};
-ghost use Rattle.worker_core.specs.WorkerCore.{MayAsk, after_ready, status_of};
-ghost use Rattle.worker_core.specs.declared.service_status.ServiceStatus.TheVariants as status;
+ghost use Rattle.std.specs.Prelude.{◌≡◌, ◌<◌, ℕ, length, Err};
+ghost use Rattle.futures.specs.declared.task.Poll.TheVariants.{Ready as PollReady};
+ghost use Rattle.worker_core.specs.WorkerCore.{MayAsk, after_ready};
 ghost use Rattle.worker_core.specs.declared.ready_answer.ReadyAnswer.TheVariants as answers;
 ghost use Rattle.server_run.specs.Creating.{Stands};
 ghost use Rattle.server_worker.specs.Standing.{AllMade, AreSlots};

@@ -1,7 +1,6 @@
 //! What a worker takes from its ring.
-ghost use Rattle.std.specs.Prelude.{◌≡◌, ◌+◌, ◌≤◌, ◌<◌, ℕ, vec_len, vec_capacity, IsTrue, IsFalse, IfOk, IfErr, ◌⊎◌, [], length};
-ghost use Rattle.std.specs.VecDeque.{deque_len, deque_capacity};
-ghost use Rattle.rtrb.specs.Ring.{known_free, known_items};
+ghost use Rattle.std.specs.Prelude.{◌≡◌, ◌+◌, ◌<◌, IsTrue, IsFalse, IfOk, IfErr, [], length};
+ghost use Rattle.rtrb.specs.Ring.{known_items};
 ghost use Rattle.server_worker.specs.Holding.{Accounts};
 ghost use Rattle.server_worker.specs.Taken.{Grows, Takes};
 ghost use Rattle.server_worker.specs.Room.{HasRoom, IsFresh};

@@ -1,10 +1,9 @@
 //! A worker's turn.
-ghost use Rattle.std.specs.Prelude.{◌≡◌, ◌≢◌, ◌≤◌, ◌<◌, ◌+◌, ◌⊎◌, ⊤, ℕ, [], length, cond, vec_len, IsTrue, IsFalse, true, false, Err};
+ghost use Rattle.std.specs.Prelude.{◌≡◌, ◌≢◌, ◌<◌, ◌+◌, ◌⊎◌, ℕ, [], length, cond, vec_len, true, false, Err};
 ghost use Rattle.std.specs.VecDeque.{deque_len};
-ghost use Rattle.futures.specs.declared.task.Poll.TheVariants.{Ready as PollReady, Pending as PollPending};
+ghost use Rattle.futures.specs.declared.task.Poll.TheVariants.{Ready as PollReady};
 ghost use Rattle.rtrb.specs.Ring.{known_free, known_items};
-ghost use Rattle.worker_core.specs.WorkerCore.{state_of, status_of};
-ghost use Rattle.worker_core.specs.declared.service_status.ServiceStatus.TheVariants as status;
+ghost use Rattle.worker_core.specs.WorkerCore.{state_of};
 ghost use Rattle.worker_core.specs.declared.worker_state.WorkerState.TheVariants as state;
 ghost use Rattle.server_worker.specs.Asking.{AsksUpTo};
 ghost use Rattle.server_worker.specs.Holding.{Accounts};
@@ -99,10 +98,11 @@ impl<L: Link, F: ServerServiceFactory<L>> Worker<L, F> {
     }
 
     /// Takes what the ring to it holds, admits those that may be served, polls each live connection once, and hands back what has
-    /// ended, as far as the ring back has places (a poll of `actix-server`'s `ServerWorker`).
+    /// ended, as far as the ring back has places (a poll of `actix-server`'s `ServerWorker`). The readiness of its services must
+    /// never err.
     ///
-    /// Each connection that came is queued, live, handed back or kept for handing back, once. `Short` comes in place of `Going`
-    /// where a growth was refused; the parcel stays in the ring.
+    /// It is `Left` once it took a stop and holds no connection, and `Unstarted` where a factory refuses a service. Else it is
+    /// `Going`, or `Short` in place of that where memory for a parcel was refused, which then stays in the ring.
     pub fn turn(
         &mut self,
         cx: &mut Context<'_>,
