@@ -2,9 +2,8 @@
 ghost use Rattle.std.specs.Prelude.{⊤};
 
 use crate::plan::PLAIN;
-use crate::station::{Ending, Station, opened};
-use futures::task::Poll;
-use futures::test::MockTask;
+use crate::station::{Ending, Station, opened, turn_once};
+use futures::task::Queue;
 use rtrb::{Consumer, Producer};
 use server_jobs::{Job, Note, Parcel, Waiter};
 use server_run::{Host, MemoryLink};
@@ -15,7 +14,7 @@ use std::time::Clock;
 /// Turns a worker until it ends, and hands over whether it left with nothing.
 #[derive(Drop)]
 pub(crate) struct Clerk {
-    pub(crate) task: MockTask,
+    pub(crate) queue: Queue,
     pub(crate) alloc: Global,
     pub(crate) parcels: Consumer<Parcel<MemoryLink>>,
     pub(crate) notes: Producer<Note<MemoryLink>>,
@@ -23,16 +22,16 @@ pub(crate) struct Clerk {
 
 // Turns the worker until it ends. Whether it left with nothing.
 fn turn_on<S: Station, Ho: Wait + Clock>(
-    task: &MockTask,
-    station: &mut S,
     host: &Ho,
+    queue: &Queue,
+    station: &mut S,
     waiter: &mut Waiter<Ho>,
 ) -> bool
-    requires { S.Future.can_poll station.old }
+    requires { S.goes_on station.old }
 {
     for _ in host.forever() {
         let before = station.total();
-        if let Poll::Ready(ending) = task.poll(station) {
+        if let Some(ending) = turn_once(host, queue, station) {
             return ending == Ending::Left(true);
         }
         if station.total() != before {
@@ -47,7 +46,7 @@ fn turn_on<S: Station, Ho: Wait + Clock>(
 // The whole work. Where there is no memory for the worker, it ends at once.
 fn attend<Ho: Clone + Drop + Wait + Clock>(clerk: Clerk, waiter: Waiter<Ho>) -> bool {
     let Clerk {
-        task,
+        queue,
         alloc,
         parcels,
         notes,
@@ -57,7 +56,7 @@ fn attend<Ho: Clone + Drop + Wait + Clock>(clerk: Clerk, waiter: Waiter<Ho>) -> 
         return false;
     };
     match waiter.host().clone() {
-        Ok(host) => turn_on(&task, &mut station, &host, &mut waiter),
+        Ok(host) => turn_on(&host, &queue, &mut station, &mut waiter),
         Err(_) => false,
     }
 }

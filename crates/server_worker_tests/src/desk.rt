@@ -1,7 +1,7 @@
-ghost use Rattle.std.specs.Prelude.{◌≡◌, Some, Err};
+ghost use Rattle.std.specs.Prelude.{◌≡◌, Some};
 ghost use Rattle.std.proofs.Common.{rules};
-ghost use Rattle.futures.specs.declared.task.Poll.TheVariants.{Ready as PollReady};
 ghost use Rattle.server_run.specs.Creating.{OnlyEnds};
+ghost use Rattle.server_worker_tests.specs.Moods.{NeverErrs};
 
 use crate::echo::Echo;
 use crate::plan::Fault;
@@ -34,7 +34,7 @@ impl<L: Link> Service<L> for Desk {
 
     ghost may = { λ _ link r. OnlyEnds (λ ended. L.identity ended.link ≡ L.identity link) r };
 
-    ghost may_ready = { λ _ answer. (e : Fault) → answer ≡ PollReady (Err e) → ⊥ };
+    ghost may_ready = { λ _ answer. NeverErrs answer };
 
     ghost may_begin = { λ _ link f. f.link ≡ Some link };
 

@@ -6,7 +6,7 @@ use service_core::{Octets, Peer};
 use std::alloc::{AllocError, Global};
 
 /// How a link is read and written.
-#[derive(Clone, Copy, PartialEq, Eq)]
+#[derive(Clone, Copy)]
 pub(crate) enum Kind {
     /// Its bytes come together.
     Whole,
@@ -20,9 +20,11 @@ pub(crate) enum Kind {
     Unwritable,
     /// It is at its end at once.
     Empty,
+    /// No read is answered.
+    Silent,
 }
 
-/// Each kind.
+/// Each kind that comes to an end.
 pub(crate) const KINDS: [Kind; 6] = [
     Kind::Whole,
     Kind::Bytewise,
@@ -96,6 +98,14 @@ fn whole(alloc: Global, digits: [u8; 4]) -> Result<Vec<ReadStep>, AllocError>
     Ok(steps)
 }
 
+// Gives nothing, and does not end.
+fn silent(alloc: Global) -> Result<Vec<ReadStep>, AllocError>
+    ensures { IfOk result (λ reads. length (given_by reads.items) < 2 ^ 64) }
+{
+    let steps = vec![in alloc; ReadStep::Never]?;
+    Ok(steps)
+}
+
 impl Kind {
     // How its link is read.
     fn reads(self, alloc: Global, digits: [u8; 4]) -> Result<Vec<ReadStep>, AllocError>
@@ -107,6 +117,7 @@ impl Kind {
             Kind::Waiting => waiting(alloc, digits),
             Kind::Unreadable => failing(alloc, digits),
             Kind::Empty => Ok(Vec::new(alloc)),
+            Kind::Silent => silent(alloc),
         }
     }
 
@@ -122,7 +133,9 @@ impl Kind {
                 WriteStep::Take(2),
             ]?),
             Kind::Unwritable => Ok(vec![in alloc; WriteStep::Take(1), WriteStep::Fail]?),
-            Kind::Whole | Kind::Bytewise | Kind::Unreadable | Kind::Empty => Ok(Vec::new(alloc)),
+            Kind::Whole | Kind::Bytewise | Kind::Unreadable | Kind::Empty | Kind::Silent => Ok(
+                Vec::new(alloc),
+            ),
         }
     }
 
@@ -139,7 +152,7 @@ impl Kind {
             Kind::Whole | Kind::Bytewise | Kind::Waiting => 4,
             Kind::Unreadable => 2,
             Kind::Unwritable => 1,
-            Kind::Empty => 0,
+            Kind::Empty | Kind::Silent => 0,
         }
     }
 
@@ -148,7 +161,8 @@ impl Kind {
         match self {
             Kind::Unreadable => Outcome::ReadFault,
             Kind::Unwritable => Outcome::WriteFault,
-            Kind::Whole | Kind::Bytewise | Kind::Waiting | Kind::Empty => Outcome::Served,
+            Kind::Whole | Kind::Bytewise | Kind::Waiting | Kind::Empty | Kind::Silent =>
+                Outcome::Served,
         }
     }
 

@@ -9,7 +9,7 @@ use futures::task::{Context, Poll};
 #[derive(Drop)]
 pub(crate) struct Opening {
     // So many polls come before the last one.
-    pub(crate) waits: u32,
+    pub(crate) waits: usize,
     pub(crate) value: Option<Result<Desk, Refusal>>,
 }
 

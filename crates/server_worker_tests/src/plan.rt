@@ -1,22 +1,21 @@
 //! The factory of the tests.
-ghost use Rattle.std.specs.Prelude.{◌≡◌, ⊤, Some, Err};
+ghost use Rattle.std.specs.Prelude.{◌≡◌, ⊤, Some};
 ghost use Rattle.std.proofs.Common.{rules};
-ghost use Rattle.futures.specs.declared.task.Poll.TheVariants.{Ready as PollReady};
 ghost use Rattle.server_run.specs.Creating.{OnlyEnds};
+ghost use Rattle.server_worker_tests.specs.Moods.{NeverErrs};
 
 use crate::desk::Desk;
 use crate::opening::Opening;
-use futures::task::Poll;
 use server_run::ServerServiceFactory;
 use service_core::{Ended, Link, ServiceFactory};
 use std::alloc::{AllocError, Global};
 
 /// What a service would err by, which it never does.
-#[derive(Clone, Copy, Debug, PartialEq, Eq, Drop)]
+#[derive(Clone, Copy)]
 pub(crate) struct Fault;
 
 /// What comes in place of a service.
-#[derive(Clone, Copy, Debug, PartialEq, Eq, Drop)]
+#[derive(Clone, Copy)]
 pub(crate) struct Refusal {
     /// The token of the service.
     pub(crate) token: usize,
@@ -26,7 +25,7 @@ pub(crate) struct Refusal {
 #[derive(Clone, Copy)]
 pub(crate) struct Plan {
     /// The making of a service waits so many times for each token below its own.
-    pub(crate) waits: u32,
+    pub(crate) waits: usize,
     /// The token whose service is refused.
     pub(crate) refused: Option<usize>,
     /// So many times the service of the token 1 is not ready.
@@ -62,7 +61,7 @@ impl<L: Link> ServiceFactory<L> for Maker {
 
     ghost may = { λ _ _ link r. OnlyEnds (λ ended. L.identity ended.link ≡ L.identity link) r };
 
-    ghost may_ready = { λ _ _ answer. (e : Fault) → answer ≡ PollReady (Err e) → ⊥ };
+    ghost may_ready = { λ _ _ answer. NeverErrs answer };
 
     ghost may_begin = { λ _ _ link f. f.link ≡ Some link };
 
@@ -84,7 +83,7 @@ impl<L: Link> ServiceFactory<L> for Maker {
             Ok(Desk::new(unready))
         };
         Opening {
-            waits: self.plan.waits.saturating_mul(self.token as u32),
+            waits: self.plan.waits.saturating_mul(self.token),
             value: Some(value),
         }
     }
@@ -97,7 +96,7 @@ impl<L: Link> ServerServiceFactory<L> for Plan {
 
     ghost may_leave = { λ _ _ link back. L.identity back ≡ L.identity link };
 
-    ghost may_ready = { λ _ _ answer. (e : Fault) → answer ≡ PollReady (Err e) → ⊥ };
+    ghost may_ready = { λ _ _ answer. NeverErrs answer };
 
     ghost may_init = { λ _ _ _. ⊤ };
 

@@ -2,7 +2,7 @@
 use crate::clerk::Clerk;
 use crate::ends::Ends;
 use crate::ledger::Ledger;
-use futures::test::MockTask;
+use futures::task::Queue;
 use rtrb::RingBuffer;
 use server_jobs::{Running, Spawner};
 use server_run::Host;
@@ -21,14 +21,14 @@ pub(crate) fn started<Ho: Host + 'static, Sp: Spawner>(
     rt: &Ho,
     spawner: &mut Sp,
     alloc: Global,
-    task: MockTask,
+    queue: Queue,
     places: usize,
     ledger: Ledger,
 ) -> Result<Option<Side>, AllocError> {
     let (parcels, inward) = RingBuffer::new(alloc, places)?;
     let (outward, notes) = RingBuffer::new(alloc, places)?;
     let clerk = Clerk {
-        task,
+        queue,
         alloc,
         parcels: inward,
         notes: outward,

@@ -1,18 +1,19 @@
-//! A worker that is polled: each poll is a turn.
-ghost use Rattle.std.specs.Prelude.{◌≡◌, ⊤, ℕ, IfOk, Err};
+//! A worker as it is turned.
+ghost use Rattle.std.specs.Prelude.{◌≡◌, ℕ, IfOk, IfNone, Err};
 ghost use Rattle.futures.specs.declared.task.Poll.TheVariants.{Ready as PollReady};
 ghost use Rattle.server_worker.specs.Turn.{Works};
 ghost use Rattle.server_worker.specs.Workers.{factory_of, hand_of, services_of};
 
 use crate::plan::{Fault, Plan, Refusal};
-use futures::Future;
-use futures::task::{Context, Poll};
+use futures::task::{Context, Doorbell, Poll, Queue};
 use rtrb::{Consumer, Producer};
 use server_jobs::{Note, Parcel};
 use server_run::{MemoryLink, ServerServiceFactory};
 use server_worker::{Turned, Worker, WorkerParts};
 use service_core::{Link, ServiceFactory};
-use std::alloc::{AllocError, Global};
+use std::alloc::{AllocError, AllocGlobal, Global};
+use std::random::RandomSource;
+use std::sync::Wait;
 
 /// How many listeners a worker of the tests has.
 pub(crate) const LISTENERS: usize = 3;
@@ -31,10 +32,20 @@ pub(crate) enum Ending {
     },
     /// A service was no longer ready.
     Faulted,
+    /// Its queue was shut down.
+    Shut,
 }
 
-/// A worker, whose polls are its turns.
-pub(crate) trait Station: Future<Output = Ending> {
+/// What is turned.
+pub(crate) trait Station {
+    // Holds of one that may be turned.
+    ghost goes_on: { Self → Type 0 };
+
+    /// One turn. None, where it goes on.
+    fn turn(&mut self, cx: &mut Context<'_>) -> Option<Ending>
+        requires { goes_on self.old }
+        ensures { IfNone result (goes_on self.new) };
+
     /// How many connections it held at the end of the last turn.
     fn total(&self) -> u64;
 
@@ -52,39 +63,30 @@ pub(crate) struct Shift<L: Link, F: ServerServiceFactory<L>> {
 impl<
     L: Link,
     F: ServerServiceFactory<L, Factory: ServiceFactory<L, Error = Fault, InitError = Refusal>>,
-> Future for Shift<L, F> {
-    type Output = Ending;
-
-    ghost can_poll = { λ s. ((token : ℕ) (e : Fault) → F.may_ready (factory_of s.worker) token (PollReady (Err e)) → ⊥)
+> Station for Shift<L, F> {
+    ghost goes_on = { λ s. ((token : ℕ) (e : _) → F.may_ready (factory_of s.worker) token (PollReady (Err e)) → ⊥)
         × Works F.Factory.Future.Future F.Factory.Service.Service F.Factory.Service.Future.Future F.Factory.Service.Future.may_stand
         (F.may_serve (factory_of s.worker)) (F.may_leave (factory_of s.worker)) (F.may_ready (factory_of s.worker)) (F.may_init (factory_of s.worker)) (F.may_make (factory_of s.worker)) (services_of s.worker) (hand_of s.worker) };
 
-    ghost gives = { λ _ _. ⊤ };
-
-    fn poll(&mut self, cx: &mut Context<'_>) -> Poll<Ending> {
+    fn turn(&mut self, cx: &mut Context<'_>) -> Option<Ending> {
         match self.worker.turn(cx) {
             Turned::Going => {
                 self.short = false;
-                cx.yield_now()
+                None
             }
             Turned::Short => {
                 self.short = true;
-                cx.yield_now()
+                None
             }
-            Turned::Left(none_held) => Poll::Ready(Ending::Left(none_held)),
-            Turned::Unstarted { token, error } => Poll::Ready(Ending::Unstarted {
+            Turned::Left(none_held) => Some(Ending::Left(none_held)),
+            Turned::Unstarted { token, error } => Some(Ending::Unstarted {
                 token,
                 named: error.token,
             }),
-            Turned::Faulted { .. } => Poll::Ready(Ending::Faulted),
+            Turned::Faulted { .. } => Some(Ending::Faulted),
         }
     }
-}
 
-impl<
-    L: Link,
-    F: ServerServiceFactory<L, Factory: ServiceFactory<L, Error = Fault, InitError = Refusal>>,
-> Station for Shift<L, F> {
     fn total(&self) -> u64 {
         self.worker.total()
     }
@@ -128,7 +130,7 @@ pub(crate) fn opened(
     notes: Producer<Note<MemoryLink>>,
     plan: Plan,
 ) -> Result<Shift<MemoryLink, Plan>, AllocError>
-    ensures { IfOk result ⟦<Shift<MemoryLink, Plan> as Future>⟧.can_poll }
+    ensures { IfOk result ⟦<Shift<MemoryLink, Plan> as Station>⟧.goes_on }
 {
     match made(alloc, parcels, notes, plan) {
         Ok(worker) => Ok(Shift {
@@ -137,4 +139,31 @@ pub(crate) fn opened(
         }),
         Err(_) => Err(AllocError),
     }
+}
+
+/// A queue whose one task is to be polled.
+pub(crate) fn queue_of_one<R: RandomSource + AllocGlobal>(rt: &R) -> Result<Queue, AllocError> {
+    let Ok(queue) = Queue::new(rt, Doorbell::parking()) else {
+        return Err(AllocError);
+    };
+    queue.add()?.schedule();
+    Ok(queue)
+}
+
+/// One turn, as a poll of the queue's task, which is to be polled again.
+pub(crate) fn turn_once<W: Wait, S: Station>(
+    rt: &W,
+    queue: &Queue,
+    station: &mut S,
+) -> Option<Ending>
+    requires { S.goes_on station.old }
+    ensures { IfNone result (S.goes_on station.new) }
+{
+    let Some(mut cx) = queue.next(rt) else {
+        return Some(Ending::Shut);
+    };
+    let ending = station.turn(&mut cx);
+    let _: Poll<()> = cx.yield_now();
+    cx.park();
+    ending
 }

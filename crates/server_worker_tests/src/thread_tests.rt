@@ -1,7 +1,8 @@
 //! Workers on threads of their own.
 use crate::side::{Side, ends_well, started};
+use crate::station::queue_of_one;
 use crate::turn_tests::mixed;
-use futures::test::MockTask;
+use futures::task::Queue;
 use server_edge::ThreadSpawner;
 use server_jobs::Spawner;
 use server_run::Host;
@@ -47,10 +48,10 @@ fn side<Ho: Host + 'static, Sp: Spawner>(
     rt: &Ho,
     spawner: &mut Sp,
     alloc: Global,
-    task: MockTask,
+    queue: Queue,
     count: u32,
 ) -> Result<Side, AllocError> {
-    match started(rt, spawner, alloc, task, 8, mixed(alloc, count, 0)?)? {
+    match started(rt, spawner, alloc, queue, 8, mixed(alloc, count, 0)?)? {
         Some(side) => Ok(side),
         None => Err(AllocError),
     }
@@ -61,11 +62,11 @@ fn come_back<Ho: Host + 'static, Sp: Spawner>(
     rt: &Ho,
     spawner: &mut Sp,
     alloc: Global,
-    tasks: (MockTask, MockTask),
+    queues: (Queue, Queue),
     count: u32,
 ) -> Result<bool, AllocError> {
-    let one = side(rt, spawner, alloc, tasks.0, count)?;
-    match side(rt, spawner, alloc, tasks.1, count) {
+    let one = side(rt, spawner, alloc, queues.0, count)?;
+    match side(rt, spawner, alloc, queues.1, count) {
         Ok(two) => both_end_well(rt, spawner, one, two),
         Err(error) => {
             ends_well(rt, one)?;
@@ -77,7 +78,7 @@ fn come_back<Ho: Host + 'static, Sp: Spawner>(
 #[test]
 fn a_thousand_connections_come_back_from_two_threads(rt: HostRuntime) -> Result<(), Fail> {
     let mut spawner = ThreadSpawner::new(rt.alloc())?;
-    let tasks = (MockTask::new(&rt)?, MockTask::new(&rt)?);
-    assert!(rt; come_back(&rt, &mut spawner, rt.alloc(), tasks, 500)?);
+    let queues = (queue_of_one(&rt)?, queue_of_one(&rt)?);
+    assert!(rt; come_back(&rt, &mut spawner, rt.alloc(), queues, 500)?);
     Ok(())
 }

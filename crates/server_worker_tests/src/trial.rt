@@ -2,11 +2,17 @@
 use crate::ends::Ends;
 use crate::ledger::Ledger;
 use crate::plan::Plan;
-use crate::station::{Ending, Station, opened};
-use futures::task::Poll;
-use futures::test::MockTask;
+use crate::station::{Ending, Station, opened, queue_of_one, turn_once};
+use futures::task::Queue;
 use rtrb::RingBuffer;
-use std::alloc::{AllocError, Global};
+use std::alloc::{AllocError, AllocGlobal};
+use std::random::RandomSource;
+use std::sync::Wait;
+
+/// What a test by hand takes of the system.
+pub(crate) trait Given: Wait + AllocGlobal + RandomSource {}
+
+impl<R: Wait + AllocGlobal + RandomSource> Given for R {}
 
 /// A worker, and how it is turned.
 #[derive(Clone, Copy)]
@@ -40,37 +46,39 @@ fn prepare(
 }
 
 // Turns a worker until it ends, or for so many turns.
-fn turn_all<S: Station>(
-    task: &MockTask,
+fn turn_all<W: Wait, S: Station>(
+    rt: &W,
+    queue: &Queue,
     trial: &Trial,
     station: &mut S,
     ends: &mut Ends,
     ledger: &mut Ledger,
 ) -> Result<Option<Ending>, AllocError>
-    requires { S.Future.can_poll station.old }
+    requires { S.goes_on station.old }
 {
     for turn in 0..trial.turns {
         prepare(trial, turn, ends, ledger)?;
-        let polled = task.poll(station);
+        let ending = turn_once(rt, queue, station);
         let is_full = ledger.take(ends)?;
         ledger.weigh(station.total(), is_full || station.was_short());
-        if let Poll::Ready(ending) = polled {
-            return Ok(Some(ending));
+        if ending.is_some() {
+            return Ok(ending);
         }
     }
     Ok(None)
 }
 
 /// How the worker ends, if it does.
-pub(crate) fn ending(
-    task: &MockTask,
-    alloc: Global,
+pub(crate) fn ending<R: Given>(
+    rt: &R,
     trial: Trial,
     ledger: &mut Ledger,
 ) -> Result<Option<Ending>, AllocError> {
+    let alloc = rt.alloc();
+    let queue = queue_of_one(rt)?;
     let (parcels, inward) = RingBuffer::new(alloc, trial.inward)?;
     let (outward, notes) = RingBuffer::new(alloc, trial.outward)?;
     let mut ends = Ends { parcels, notes };
     let mut station = opened(alloc, inward, outward, trial.plan)?;
-    turn_all(task, &trial, &mut station, &mut ends, ledger)
+    turn_all(rt, &queue, &trial, &mut station, &mut ends, ledger)
 }
