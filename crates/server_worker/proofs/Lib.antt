@@ -1,0 +1,11 @@
+pub mod Accounting
+pub mod AdmitSteps
+pub mod AskSteps
+pub mod BeginSteps
+pub mod MakeSteps
+pub mod Places
+pub mod PollSteps
+pub mod PostSteps
+pub mod ServeSteps
+pub mod TakeSteps
+pub mod WorkSteps

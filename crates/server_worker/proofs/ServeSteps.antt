@@ -1,0 +1,184 @@
+-- The live connections were polled, and what ended was posted.
+use Rattle.std.proofs.Common.{◌≡◌, Bool, true, false, true≢false, ◌++◌, ◌∷◌, [], ℕ, ◌+◌, List, All, Result, take, drop, sum_by, refl, sym, ◌∙◌, ap, arith, subst}
+use Rattle.std.proofs.lemmas.List.Sums.{sum_by-append}
+use Rattle.std.proofs.lemmas.List.Elements.{All-nil, All-cons, All-head, All-tail}
+use Rattle.futures.specs.declared.future.Future.{Ghosts as FutureOf}
+use Rattle.rtrb.specs.Ring.{received, sent, SameProducer}
+use Rattle.service_core.specs.Counts.{risen}
+use Rattle.service_core.specs.Link.{Identity}
+use Rattle.service_core.specs.declared.ended.Ended.{Ended}
+use Rattle.server_jobs.specs.Cards.{Card, of_note, of_parcel, of_waiting}
+use Rattle.server_worker.specs.Holding.{Accounts, of_live}
+use Rattle.server_worker.specs.Telling.{TellsNoReady, TellsReady, newly}
+use Rattle.server_worker.specs.Polled.{Admits, OwesMore, PolledFrom, PollsLive, as_it_is, handed, once_polled, queued}
+use Rattle.server_worker.specs.Posted.{Posts}
+use Rattle.server_worker.specs.Sound.{IsSound, IsTold, Tells}
+use Rattle.server_worker.specs.Standing.{AllMade}
+use Rattle.server_worker.specs.Taken.{Takes}
+use Rattle.server_worker.specs.declared.connections.Connections.{Connections}
+use Rattle.server_worker.specs.declared.slot.Slot.{Slot}
+use Rattle.server_jobs.specs.declared.note.Note.TheVariants.{Ready}
+use Rattle.server_worker.proofs.Accounting.{accounts_trans}
+
+pub all_left : {X : Type 0} (P : X → Type 0) (xs ys : List X) → All P (xs ++ ys) → All P xs
+all_left P [] ys all = All-nil P
+all_left P (x ∷ xs) ys all = All-cons P x xs (All-head P x (xs ++ ys) all) (all_left P xs ys (All-tail P x (xs ++ ys) all))
+
+pub all_right : {X : Type 0} (P : X → Type 0) (xs ys : List X) → All P (xs ++ ys) → All P ys
+all_right P [] ys all = all
+all_right P (x ∷ xs) ys all = all_right P xs ys (All-tail P x (xs ++ ys) all)
+
+module _ {L E Fut : Type 0} (g : FutureOf Fut (Result (Ended L) E)) (may_stand : Fut → L → Type 0) (may_serve : ℕ → L → Ended L → Type 0) (may_leave : ℕ → L → L → Type 0)
+    (may_make : ℕ → Type 0) (listeners : ℕ) (identity : L → Identity) (a m b : Connections L Fut)
+    (polled : PolledFrom g may_stand may_serve may_leave may_make listeners identity a m 0) (posts : Posts m b) where
+  -- what was kept went on the ring or is kept
+  moved : (h : Card → ℕ) → sum_by (of_note identity h) (sent m.notes) + sum_by (of_note identity h) m.owed.items ≡ sum_by (of_note identity h) (sent b.notes) + sum_by (of_note identity h) b.owed.items
+  moved h = omega (arith, ap (sum_by (of_note identity h)) posts.appended, ap (sum_by (of_note identity h)) posts.kept, sum_by-append (of_note identity h) (sent m.notes) posts.more, sum_by-append (of_note identity h) posts.more b.owed.items)
+
+  pub serves_polls : PollsLive identity a b
+  serves_polls = record {
+    admitted = [];
+    ended = polled.ended;
+    once = λ h. rw posts.live (omega (arith, polled.once h));
+    came = λ h. rw (posts.parcels, posts.queue, posts.strays, polled.parcels, polled.queue, polled.strays) (omega arith);
+    told = λ h. let n = ap (λ p. sum_by (of_note identity h) (sent p)) polled.notes in omega (arith, moved h, polled.told h, n);
+  }
+
+  pub serves_accounts : Accounts identity a b
+  serves_accounts = record {
+    parcels = rw (posts.parcels, polled.parcels) ((refl, refl, refl, refl), refl);
+    notes = subst (λ n. SameProducer n b.notes) polled.notes posts.notes;
+    once = λ h.
+        let n = ap (λ p. sum_by (of_note identity h) (sent p)) polled.notes in
+        let q = ap (λ q. sum_by (of_waiting identity h) q.items) (posts.queue ∙ polled.queue) in
+        let s = ap (λ q. sum_by (of_waiting identity h) q.items) (posts.strays ∙ polled.strays) in
+        let p = ap (λ p. sum_by (of_parcel identity h) (received p)) (posts.parcels ∙ polled.parcels) in
+        let l = ap (λ l. sum_by (of_live identity h) l.items) posts.live in
+        let o : sum_by (of_live identity h) (take 0 m.live.items) + (sum_by (of_live identity h) (drop 0 m.live.items) + sum_by (λ (e : Card × ℕ). h e.0) polled.ended) ≡ sum_by (of_live identity h) a.live.items = polled.once (λ c n. h c) in
+        omega (arith, moved h, polled.told h, n, q, s, p, l, o);
+  }
+
+  pub serves_no_ready : TellsNoReady a b
+  serves_no_ready = record {
+    count = λ f nothing.
+        let n = ap (λ p. sum_by f (sent p)) polled.notes in
+        omega (arith, polled.signals f nothing, n, ap (sum_by f) posts.appended, ap (sum_by f) posts.kept, sum_by-append f (sent m.notes) posts.more, sum_by-append f posts.more b.owed.items);
+    told = posts.told_ready ∙ polled.told_ready;
+  }
+
+  pub serves_tells : Tells may_serve may_leave may_make listeners a b
+  serves_tells = record {
+    more = posts.more;
+    appended = posts.appended ∙ ap (λ n. sent n ++ posts.more) polled.notes;
+    told = all_left (IsTold may_serve may_leave may_make listeners (received b.parcels)) posts.more b.owed.items told;
+  }
+    where
+      told : All (IsTold may_serve may_leave may_make listeners (received b.parcels)) (posts.more ++ b.owed.items)
+      told = rw posts.parcels (subst (All (IsTold may_serve may_leave may_make listeners (received m.parcels))) posts.kept polled.sound.owed)
+
+  pub serves_sound : IsSound g may_stand may_serve may_leave may_make listeners b
+  serves_sound = record {
+    queue = rw (posts.parcels, posts.queue) polled.sound.queue;
+    strays = rw (posts.parcels, posts.strays) polled.sound.strays;
+    live = rw (posts.parcels, posts.live) polled.sound.live;
+    owed = all_right (IsTold may_serve may_leave may_make listeners (received b.parcels)) posts.more b.owed.items told;
+  }
+    where
+      told : All (IsTold may_serve may_leave may_make listeners (received b.parcels)) (posts.more ++ b.owed.items)
+      told = rw posts.parcels (subst (All (IsTold may_serve may_leave may_make listeners (received m.parcels))) posts.kept polled.sound.owed)
+
+newly_same : (n : ℕ) (b : Bool) → newly n b b ≡ 0
+newly_same n true = refl
+newly_same n false = refl
+
+module _ {L Fut MFut S : Type 0} (listeners : ℕ) (slots : List (Slot MFut S)) where
+  -- that all services stand was told by what is owed, or was told before, or is not told
+  pub turn_ready : {identity : L → Identity} (a b c d e : Connections L Fut) → Takes listeners a b → Admits identity b c → OwesMore identity c d → TellsNoReady d e
+      → (c.told ≡ false → d.told ≡ true → AllMade slots) → TellsReady slots a e
+  turn_ready a b c d e takes admits owes none stand = record {
+    once = λ f nothing.
+        let n = ap (λ p. sum_by f (sent p)) (owes.notes ∙ admits.notes ∙ takes.notes) in
+        let o = ap (λ q. sum_by f q.items) admits.owed in
+        let t = ap (sum_by f) takes.owed in
+        let m = ap (λ x. newly (f Ready) x d.told) same in
+        let k = ap (λ x. newly (f Ready) a.told x) none.told in
+        omega (arith, none.count f nothing, owes.signals f, n, o, t, m, k);
+    stays = λ was. none.told ∙ owes.told_ready (same ∙ was);
+    stand = λ was is. stand (same ∙ was) (sym none.told ∙ is);
+  }
+    where
+      same : c.told ≡ a.told
+      same = admits.told_ready ∙ takes.told_ready
+
+  -- nothing of it was told
+  pub turn_no_ready : (a b e : Connections L Fut) → Takes listeners a b → TellsNoReady b e → TellsReady slots a e
+  turn_no_ready a b e takes none = record {
+    once = λ f nothing.
+        let n = ap (λ p. sum_by f (sent p)) takes.notes in
+        let t = ap (sum_by f) takes.owed in
+        let m = ap (λ x. newly (f Ready) a.told x) same in
+        omega (arith, none.count f nothing, n, t, m, newly_same (f Ready) a.told);
+    stays = λ was. same ∙ was;
+    stand = λ was is. absurd (true≢false (sym is ∙ same ∙ was));
+  }
+    where
+      same : e.told ≡ a.told
+      same = none.told ∙ takes.told_ready
+
+-- a whole turn: what came was taken, those that may were admitted, a note may be owed, and the live ones were polled
+module _ {L Fut : Type 0} (identity : L → Identity) (listeners : ℕ) (a b c d e : Connections L Fut)
+    (accounts : Accounts identity a b) (takes : Takes listeners a b) (admits : Admits identity b c) (owes : OwesMore identity c d) (served : Accounts identity d e) (polls : PollsLive identity d e) where
+  same_notes : (h : Card → ℕ) → handed identity h d ≡ handed identity h a
+  same_notes h =
+      let n = ap (λ p. sum_by (of_note identity h) (sent p)) (owes.notes ∙ admits.notes ∙ takes.notes) in
+      let o = ap (λ q. sum_by (of_note identity h) q.items) admits.owed in
+      let t = ap (sum_by (of_note identity h)) takes.owed in
+      omega (arith, owes.once h, n, o, t)
+
+  same_queue : (h : Card → ℕ) → queued identity h d + sum_by h admits.admitted ≡ queued identity h b
+  same_queue h =
+      let q = ap (λ q. sum_by (of_waiting identity h) q.items) owes.queue in
+      let s = ap (λ q. sum_by (of_waiting identity h) q.items) (owes.strays ∙ admits.strays) in
+      omega (arith, admits.queue h, q, s)
+
+  same_parcels : (h : Card → ℕ) → sum_by (of_parcel identity h) (received d.parcels) ≡ sum_by (of_parcel identity h) (received b.parcels)
+  same_parcels h = ap (λ p. sum_by (of_parcel identity h) (received p)) (owes.parcels ∙ admits.parcels)
+
+  live_by : (h : Card → ℕ → ℕ) → sum_by (as_it_is identity h) d.live.items ≡ sum_by (as_it_is identity h) a.live.items + sum_by (λ (k : Card). h k 0) admits.admitted
+  live_by h =
+      let l = ap (λ l. sum_by (as_it_is identity h) l.items) owes.live in
+      let t = ap (sum_by (as_it_is identity h)) takes.live in
+      omega (arith, admits.live h, l, t)
+
+  came_in : (h : Card → ℕ) → sum_by (of_parcel identity h) (received b.parcels) + queued identity h a ≡ sum_by (of_parcel identity h) (received a.parcels) + queued identity h b
+  came_in h =
+      let l = ap (sum_by (of_live identity h)) takes.live in
+      let o = ap (sum_by (of_note identity h)) takes.owed in
+      let n = ap (λ p. sum_by (of_note identity h) (sent p)) takes.notes in
+      omega (arith, accounts.once h, l, o, n)
+
+  pub turn_polls : PollsLive identity a e
+  turn_polls = record {
+    admitted = admits.admitted ++ polls.admitted;
+    ended = polls.ended;
+    once = λ h.
+        let l : sum_by (once_polled identity h) d.live.items ≡ sum_by (once_polled identity h) a.live.items + sum_by (λ (k : Card). h k 1) admits.admitted = live_by (λ k n. h k (risen n)) in
+        omega (arith, l, polls.once h, sum_by-append (λ (k : Card). h k 1) admits.admitted polls.admitted);
+    came = λ h. omega (arith, came_in h, same_queue h, same_parcels h, polls.came h, sum_by-append h admits.admitted polls.admitted);
+    told = λ h. omega (arith, same_notes h, polls.told h);
+  }
+
+  pub turn_accounts : Accounts identity a e
+  turn_accounts = accounts_trans accounts (accounts_trans between served)
+    where
+      between : Accounts identity b d
+      between = record {
+        parcels = rw (owes.parcels, admits.parcels) ((refl, refl, refl, refl), refl);
+        notes = rw (owes.notes, admits.notes) ((refl, refl, refl, refl), refl);
+        once = λ h.
+            let n = ap (λ p. sum_by (of_note identity h) (sent p)) (owes.notes ∙ admits.notes) in
+            let o = ap (λ q. sum_by (of_note identity h) q.items) admits.owed in
+            let l : sum_by (of_live identity h) d.live.items ≡ sum_by (of_live identity h) a.live.items + sum_by h admits.admitted = live_by (λ k n. h k) in
+            let t = ap (sum_by (of_live identity h)) takes.live in
+            omega (arith, same_queue h, same_parcels h, owes.once h, n, o, l, t);
+      }

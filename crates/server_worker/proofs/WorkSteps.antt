@@ -1,0 +1,66 @@
+-- What a worker is stays so through the steps of a turn.
+use Rattle.std.proofs.Common.{◌≡◌, ◌<◌, ◌++◌, ◌∷◌, [], ℕ, List, Result, length, true, Option, Some, None, IfSome, slice_get, sym, ◌∙◌, arith, subst}
+use Rattle.std.proofs.lemmas.List.Elements.{All-push}
+use Rattle.futures.specs.declared.future.Future.{Ghosts as FutureOf}
+use Rattle.rtrb.specs.Ring.{received}
+use Rattle.service_core.specs.Meaning.{Readiness}
+use Rattle.service_core.specs.declared.ended.Ended.{Ended}
+use Rattle.service_core.specs.declared.service.Service.{Ghosts as ServiceOf}
+use Rattle.server_worker.specs.Sound.{IsSound, IsTold}
+use Rattle.server_worker.specs.Standing.{AllMade, AreSlots, AtSlot, IsMade, IsSlot, MadeOrWaits}
+use Rattle.server_worker.specs.Taken.{Takes}
+use Rattle.server_worker.specs.Turn.{Works}
+use Rattle.server_worker.specs.declared.connections.Connections.{Connections}
+use Rattle.server_jobs.specs.declared.note.Note.TheVariants.{Ready}
+use Rattle.server_worker.specs.declared.services.Services.{Services}
+use Rattle.server_worker.specs.declared.slot.Slot.{Slot}
+use Rattle.server_worker.specs.declared.slot.Slot.TheVariants.{Made, Making}
+use Rattle.server_worker.proofs.TakeSteps.{sound_taken}
+
+stays_made : {Fut S : Type 0} (old new : Option (Slot Fut S)) → AtSlot MadeOrWaits old new → IsMade old → IsMade new
+stays_made (Some (Made a)) (Some (Made b)) waits made = tt
+stays_made (Some (Made a)) (Some (Making b)) waits made = waits
+stays_made (Some (Making a)) new waits made = absurd made
+stays_made None new waits made = absurd made
+stays_made (Some (Made a)) None waits made = waits
+
+pub all_stay_made : {Fut S : Type 0} (old new : List (Slot Fut S)) → length new ≡ length old → ((t : ℕ) → t < length new → AtSlot MadeOrWaits (slice_get old t) (slice_get new t)) → AllMade old → AllMade new
+all_stay_made old new many waits made t inside = stays_made (slice_get old t) (slice_get new t) (waits t inside) (made t (omega arith))
+
+module _ {L S E I Fut MFut : Type 0} (mg : FutureOf MFut (Result S I)) (sg : ServiceOf S L (Ended L) E Fut) (g : FutureOf Fut (Result (Ended L) E))
+    (may_stand : Fut → L → Type 0) (may_serve : ℕ → L → Ended L → Type 0) (may_leave : ℕ → L → L → Type 0) (may_ready : ℕ → Readiness E → Type 0)
+    (may_init : ℕ → I → Type 0) (may_make : ℕ → Type 0) where
+  makes_slot : (token : ℕ) (slot : Option (Slot MFut S)) → IfSome slot (IsSlot mg sg may_stand (may_serve token) (may_leave token) (may_ready token) (may_init token) (may_make token)) → IsMade slot → may_make token
+  makes_slot token None is made = absurd made
+  makes_slot token (Some (Making f)) is made = absurd made
+  makes_slot token (Some (Made s)) is made = is.0
+
+  -- the note that all services stand is true, and may be owed
+  pub works_ready : {Fac : Type 0} (s : Services Fac MFut S) (a b : Connections L Fut) → s.made ≡ true → b.owed.items ≡ a.owed.items ++ Ready ∷ [] → b.parcels ≡ a.parcels → b.queue ≡ a.queue → b.strays ≡ a.strays → b.live ≡ a.live
+      → Works mg sg g may_stand may_serve may_leave may_ready may_init may_make s a → Works mg sg g may_stand may_serve may_leave may_ready may_init may_make s b
+  works_ready s a b made owed parcels queue strays live works = record {
+    connections = record {
+      queue = rw (parcels, queue) works.connections.queue;
+      strays = rw (parcels, strays) works.connections.strays;
+      live = rw (parcels, live) works.connections.live;
+      owed = rw (parcels, owed) (All-push (IsTold may_serve may_leave may_make (length s.slots.items) (received a.parcels)) a.owed.items Ready works.connections.owed
+          (λ token inside. makes_slot token (slice_get s.slots.items token) (works.slots token) (works.made made token inside)));
+    };
+    slots = works.slots;
+    made = works.made;
+  }
+
+  -- services were made, and connections were taken
+  pub sound_of_more : (a b : Connections L Fut) (n m k : ℕ) → m ≡ n → k ≡ n → Takes m a b → IsSound g may_stand may_serve may_leave may_make n a → IsSound g may_stand may_serve may_leave may_make k b
+  sound_of_more a b n m k is too takes sound = subst (λ i. IsSound g may_stand may_serve may_leave may_make i b) (is ∙ sym too)
+      (sound_taken g may_stand may_serve may_leave may_make m a b takes (subst (λ i. IsSound g may_stand may_serve may_leave may_make i a) (sym is) sound))
+
+  pub works_made : {Fac : Type 0} (s t : Services Fac MFut S) (a b : Connections L Fut) (m : ℕ) → m ≡ length s.slots.items → length t.slots.items ≡ length s.slots.items → t.made ≡ s.made
+      → ((k : ℕ) → k < length t.slots.items → AtSlot MadeOrWaits (slice_get s.slots.items k) (slice_get t.slots.items k))
+      → AreSlots mg sg may_stand may_serve may_leave may_ready may_init may_make t.slots.items → Takes m a b
+      → Works mg sg g may_stand may_serve may_leave may_ready may_init may_make s a → Works mg sg g may_stand may_serve may_leave may_ready may_init may_make t b
+  works_made s t a b m is many made waits slots takes works = record {
+    connections = sound_of_more a b (length s.slots.items) m (length t.slots.items) is many takes works.connections;
+    slots = slots;
+    made = λ all. all_stay_made s.slots.items t.slots.items many waits (works.made (sym made ∙ all));
+  }

@@ -1,0 +1,12 @@
+pub mod Asking
+pub mod Ending
+pub mod Holding
+pub mod Polled
+pub mod Posted
+pub mod Room
+pub mod Sound
+pub mod Standing
+pub mod Taken
+pub mod Telling
+pub mod Turn
+pub mod Workers

@@ -1,0 +1,53 @@
+-- What a worker is between two turns, and when a turn may say that it goes on.
+use Rattle.std.specs.Prelude.{◌≡◌, ◌≢◌, ◌<◌, ◌⊎◌, ⊤, ℕ, Bool, true, false, List, [], length, slice_get, Result}
+use Rattle.futures.specs.declared.future.Future.{Ghosts as FutureOf}
+use Rattle.futures.specs.declared.task.Poll.TheVariants.{Pending}
+use Rattle.rtrb.specs.Ring.{known_free}
+use Rattle.worker_core.specs.WorkerCore.{status_of}
+use Rattle.worker_core.specs.declared.service_status.ServiceStatus.TheVariants.{Available}
+use Rattle.service_core.specs.Counts.{Rose}
+use Rattle.service_core.specs.Meaning.{Readiness}
+use Rattle.service_core.specs.declared.ended.Ended.{Ended}
+use Rattle.service_core.specs.declared.service.Service.{Ghosts as ServiceOf}
+use Rattle.server_worker.specs.Sound.{IsSound}
+use Rattle.server_worker.specs.Standing.{AllMade, AreSlots, IsMade, making_waits}
+use Rattle.server_worker.specs.declared.connections.Connections.{Connections}
+use Rattle.server_worker.specs.declared.services.Services.{Services}
+use Rattle.server_worker.specs.declared.slot.Slot.{Slot}
+use Rattle.server_worker.specs.declared.turned.Turned.{Turned}
+use Rattle.server_worker.specs.declared.turned.Turned.TheVariants.{Going, Short, Left, Unstarted, Faulted}
+
+-- what each connection and each service of a worker is
+pub record Works {L S Fac E I Fut MFut : Type 0} (mg : FutureOf MFut (Result S I)) (sg : ServiceOf S L (Ended L) E Fut) (g : FutureOf Fut (Result (Ended L) E))
+    (may_stand : Fut → L → Type 0) (may_serve : ℕ → L → Ended L → Type 0) (may_leave : ℕ → L → L → Type 0) (may_ready : ℕ → Readiness E → Type 0)
+    (may_init : ℕ → I → Type 0) (may_make : ℕ → Type 0) (services : Services Fac MFut S) (hand : Connections L Fut) : Type 0 where
+  pub connections : IsSound g may_stand may_serve may_leave may_make (length services.slots.items) hand
+  pub slots : AreSlots mg sg may_stand may_serve may_leave may_ready may_init may_make services.slots.items
+  pub made : services.made ≡ true → AllMade services.slots.items
+
+abbrev pub IsGoing : {E I : Type 0} → Turned E I → Type 0
+IsGoing Going = ⊤
+IsGoing Short = ⊤
+IsGoing (Left none_held) = ⊥
+IsGoing (Unstarted token error) = ⊥
+IsGoing (Faulted token readiness error) = ⊥
+
+-- What a worker waits for when it goes on.
+pub record GoesOn {L S Fac E Fut MFut : Type 0} (may_ready : ℕ → Readiness E → Type 0) (before : List (Slot MFut S)) (services : Services Fac MFut S) (hand : Connections L Fut) : Type 0 where
+  -- it keeps no note while a place of their ring is known free
+  pub notes : (hand.owed.items ≡ []) ⊎ (known_free hand.notes ≡ 0)
+  -- where it makes services, not all stand, and each that doesn't was pending
+  pub unmade : services.made ≡ false → ¬ AllMade services.slots.items
+  pub making : services.made ≡ false → (token : ℕ) → token < length services.slots.items
+      → IsMade (slice_get services.slots.items token) ⊎ Rose (making_waits (slice_get before token)) (making_waits (slice_get services.slots.items token))
+  -- a service that isn't available may be pending
+  pub ready : services.made ≡ true → (token : ℕ) → token < length services.slots.items
+      → (status_of services.core token ≡ Available) ⊎ may_ready token Pending
+
+-- it leaves where it was stopped and holds no connection, and else goes on
+abbrev pub ComesTo : {E I : Type 0} → Bool → ℕ → Bool → Turned E I → Type 0
+ComesTo stopped total all Going = (all ≡ true) × (stopped ≡ true → total ≢ 0)
+ComesTo stopped total all Short = (all ≡ false) × (stopped ≡ true → total ≢ 0)
+ComesTo stopped total all (Left none_held) = (none_held ≡ true) × (stopped ≡ true) × (total ≡ 0)
+ComesTo stopped total all (Unstarted token error) = ⊥
+ComesTo stopped total all (Faulted token readiness error) = ⊥

@@ -1,0 +1,23 @@
+//! A worker: it takes connections from its ring, makes the services of its factory, serves each connection, and hands it back.
+#![tactic(auto)]
+
+mod admitting;
+mod beginning;
+mod connections;
+mod finished;
+mod live;
+mod making;
+mod polling;
+mod posting;
+mod readiness;
+mod services;
+mod slot;
+mod taking;
+mod turned;
+mod turning;
+mod worker;
+mod worker_parts;
+
+pub use turned::Turned;
+pub use worker::Worker;
+pub use worker_parts::WorkerParts;

@@ -1,0 +1,46 @@
+//! How a worker hands back what it is done with.
+ghost use Rattle.std.specs.Prelude.{◌≡◌, ◌+◌, ◌<◌, ◌⊎◌, [], vec_len, IsTrue, IsFalse};
+ghost use Rattle.std.specs.VecDeque.{deque_len};
+ghost use Rattle.rtrb.specs.Ring.{known_free};
+ghost use Rattle.server_worker.specs.Posted.{Posts};
+
+use crate::connections::Connections;
+use rtrb::PushError;
+use service_core::Link;
+
+impl<L: Link, Fut: Drop> Connections<L, Fut> {
+    // How many connections it holds, queued and live.
+    pub(crate) fn total(&self) -> u64
+        ensures { result ≡ vec_len self.now.live + (deque_len self.now.queue + vec_len self.now.strays) }
+    {
+        let waiting = self.queue.len() + self.strays.len();
+        (self.live.len() + waiting) as u64
+    }
+
+    // Hands back the first of what is kept. False where there is none, or the ring is full.
+    fn post_one(&mut self) -> bool
+        ensures posts { Posts self.old self.new }
+        ensures fewer { IsTrue result → deque_len self.new.owed + 1 ≡ deque_len self.old.owed }
+        ensures rest { IsFalse result → (self.new.owed.items ≡ []) ⊎ (known_free self.new.notes ≡ 0) }
+    {
+        let Some(note) = self.owed.pop_front() else {
+            return false;
+        };
+        match self.notes.push(note) {
+            Ok(()) => true,
+            Err(PushError::Full(note)) => {
+                self.owed.push_front_reserved(note);
+                false
+            }
+        }
+    }
+
+    #[tactic(auto, using(crate::proofs::PostSteps::posts_none, crate::proofs::PostSteps::posts_trans))]
+    // Hands back what is kept, as far as the ring has places.
+    pub(crate) fn post(&mut self)
+        ensures posts { Posts self.old self.new }
+        ensures rest { (self.new.owed.items ≡ []) ⊎ (known_free self.new.notes ≡ 0) }
+    {
+        while self.post_one() {}
+    }
+}

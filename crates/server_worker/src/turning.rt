@@ -1,0 +1,182 @@
+//! A worker's turn.
+ghost use Rattle.std.specs.Prelude.{◌≡◌, ◌≢◌, ◌<◌, ◌+◌, ◌⊎◌, ℕ, [], length, cond, vec_len, true, false, Err};
+ghost use Rattle.std.specs.VecDeque.{deque_len};
+ghost use Rattle.futures.specs.declared.task.Poll.TheVariants.{Ready as PollReady};
+ghost use Rattle.rtrb.specs.Ring.{known_free, known_items};
+ghost use Rattle.worker_core.specs.WorkerCore.{state_of};
+ghost use Rattle.worker_core.specs.declared.worker_state.WorkerState.TheVariants as state;
+ghost use Rattle.server_worker.specs.Asking.{AsksUpTo};
+ghost use Rattle.server_worker.specs.Holding.{Accounts};
+ghost use Rattle.server_worker.specs.Polled.{Admits, OwesMore, PollsLive};
+ghost use Rattle.server_worker.specs.Sound.{IsSound, Tells};
+ghost use Rattle.server_worker.specs.Standing.{AllMade};
+ghost use Rattle.server_worker.specs.Taken.{Queues, Receives};
+ghost use Rattle.server_worker.specs.Telling.{TellsNoReady, TellsReady};
+ghost use Rattle.server_worker.specs.Turn.{ComesTo, GoesOn, IsGoing, Works};
+ghost use Rattle.server_worker.specs.Workers.{core_of, factory_of, hand_of, held_by, listeners_of, made_of, parcels_of, queue_of, services_of, slots_of, stopped_of, told_of, total_of};
+ghost use Rattle.server_worker.specs.declared.turned.Turned.TheVariants.{Going, Short, Left, Unstarted, Faulted};
+
+use crate::admitting::admit;
+use crate::making::make_services;
+use crate::polling::poll_live;
+use crate::readiness::check_readiness;
+use crate::turned::Turned;
+use crate::worker::Worker;
+use futures::task::Context;
+use server_jobs::Note;
+use server_run::ServerServiceFactory;
+use service_core::{Link, ServiceFactory};
+
+impl<L: Link, F: ServerServiceFactory<L>> Worker<L, F> {
+    #[tactic(auto, using(crate::proofs::AdmitSteps::admits_same))]
+    // Admits those that wait, where every service is ready.
+    fn admit_ready(&mut self, cx: &mut Context<'_>)
+        requires works { Works F.Factory.Future.Future F.Factory.Service.Service F.Factory.Service.Future.Future F.Factory.Service.Future.may_stand
+            (F.may_serve self.old.factory) (F.may_leave self.old.factory) (F.may_ready self.old.factory) (F.may_init self.old.factory) (F.may_make self.old.factory) self.old.services self.old.hand }
+        requires never_errs { (token : ℕ) (e : F.Factory.Error) → F.may_ready self.old.factory token (PollReady (Err e)) → ⊥ }
+        ensures works { Works F.Factory.Future.Future F.Factory.Service.Service F.Factory.Service.Future.Future F.Factory.Service.Future.may_stand
+            (F.may_serve self.new.factory) (F.may_leave self.new.factory) (F.may_ready self.new.factory) (F.may_init self.new.factory) (F.may_make self.new.factory) self.new.services self.new.hand }
+        ensures factory { self.new.factory ≡ self.old.factory }
+        ensures slots { self.new.services.slots ≡ self.old.services.slots }
+        ensures admits { Admits L.identity self.old.hand self.new.hand }
+        ensures unmade { self.new.services.made ≡ false → ¬ AllMade self.new.services.slots.items }
+        ensures asks { AsksUpTo (F.may_ready self.new.factory) self.old.services.core self.new.services.core (cond self.new.services.made (length self.new.services.slots.items) 0) }
+        ensures all { self.new.services.made ≡ true → state_of self.new.services.core ≡ state.Available → self.new.hand.queue.items ≡ [] }
+        ensures none { (self.new.services.made ≡ true → state_of self.new.services.core ≡ state.Available → ⊥) → self.new.hand.queue.items ≡ self.old.hand.queue.items }
+    {
+        if !self.services.stand() {
+            return;
+        }
+        check_readiness(&self.factory, &mut self.services, cx);
+        if !self.services.core.may_admit() {
+            return;
+        }
+        admit(&self.factory, &self.services.slots, &mut self.hand);
+    }
+
+    // Lets the acceptor know, once, that all services stand.
+    fn tell_ready(&mut self)
+        requires works { Works F.Factory.Future.Future F.Factory.Service.Service F.Factory.Service.Future.Future F.Factory.Service.Future.may_stand
+            (F.may_serve self.old.factory) (F.may_leave self.old.factory) (F.may_ready self.old.factory) (F.may_init self.old.factory) (F.may_make self.old.factory) self.old.services self.old.hand }
+        ensures works { Works F.Factory.Future.Future F.Factory.Service.Service F.Factory.Service.Future.Future F.Factory.Service.Future.may_stand
+            (F.may_serve self.new.factory) (F.may_leave self.new.factory) (F.may_ready self.new.factory) (F.may_init self.new.factory) (F.may_make self.new.factory) self.new.services self.new.hand }
+        ensures factory { self.new.factory ≡ self.old.factory }
+        ensures services { self.new.services ≡ self.old.services }
+        ensures owes { OwesMore L.identity self.old.hand self.new.hand }
+        ensures told { self.new.services.made ≡ true → self.new.hand.told ≡ true }
+        ensures stand { self.old.hand.told ≡ false → self.new.hand.told ≡ true → self.new.services.made ≡ true }
+    {
+        if self.services.made && !self.hand.told {
+            self.hand.told = true;
+            self.hand.owed.push_back_reserved(Note::Ready);
+        }
+    }
+
+    // Polls the live connections, and hands back what has ended.
+    fn serve_live(&mut self, cx: &mut Context<'_>)
+        requires sound { IsSound F.Factory.Service.Future.Future F.Factory.Service.Future.may_stand (F.may_serve self.old.factory) (F.may_leave self.old.factory) (F.may_make self.old.factory)
+            (length self.old.services.slots.items) self.old.hand }
+        ensures sound { IsSound F.Factory.Service.Future.Future F.Factory.Service.Future.may_stand (F.may_serve self.new.factory) (F.may_leave self.new.factory) (F.may_make self.new.factory)
+            (length self.new.services.slots.items) self.new.hand }
+        ensures factory { self.new.factory ≡ self.old.factory }
+        ensures slots { self.new.services.slots ≡ self.old.services.slots }
+        ensures core { self.new.services.core ≡ self.old.services.core }
+        ensures made { self.new.services.made ≡ self.old.services.made }
+        ensures accounts { Accounts L.identity self.old.hand self.new.hand }
+        ensures polls { PollsLive L.identity self.old.hand self.new.hand }
+        ensures tells { Tells (F.may_serve self.new.factory) (F.may_leave self.new.factory) (F.may_make self.new.factory) (length self.new.services.slots.items) self.old.hand self.new.hand }
+        ensures no_ready { TellsNoReady self.old.hand self.new.hand }
+        ensures parcels { self.new.hand.parcels ≡ self.old.hand.parcels }
+        ensures queue { self.new.hand.queue ≡ self.old.hand.queue }
+        ensures stopped { self.new.hand.stopped ≡ self.old.hand.stopped }
+        ensures notes { (self.new.hand.owed.items ≡ []) ⊎ (known_free self.new.hand.notes ≡ 0) }
+        ensures total { self.new.total ≡ vec_len self.new.hand.live + (deque_len self.new.hand.queue + vec_len self.new.hand.strays) }
+    {
+        poll_live(&self.factory, &mut self.hand, self.services.slots.len(), cx);
+        self.hand.post();
+        self.total = self.hand.total();
+    }
+
+    /// Takes what the ring to it holds, admits those that may be served, polls each live connection once, and hands back what has
+    /// ended, as far as the ring back has places (a poll of `actix-server`'s `ServerWorker`). The readiness of its services must
+    /// never err.
+    ///
+    /// It is `Left` once it took a stop and holds no connection, and `Unstarted` where a factory refuses a service. Else it is
+    /// `Going`, or `Short` in place of that where memory for a parcel was refused, which then stays in the ring.
+    pub fn turn(
+        &mut self,
+        cx: &mut Context<'_>,
+    ) -> Turned<
+        <F::Factory as ServiceFactory<L>>::Error,
+        <F::Factory as ServiceFactory<L>>::InitError,
+    >
+        requires works { Works F.Factory.Future.Future F.Factory.Service.Service F.Factory.Service.Future.Future F.Factory.Service.Future.may_stand
+            (F.may_serve (factory_of self.old)) (F.may_leave (factory_of self.old)) (F.may_ready (factory_of self.old)) (F.may_init (factory_of self.old)) (F.may_make (factory_of self.old)) (services_of self.old) (hand_of self.old) }
+        requires never_errs { (token : ℕ) (e : F.Factory.Error) → F.may_ready (factory_of self.old) token (PollReady (Err e)) → ⊥ }
+        ensures works { IsGoing result → Works F.Factory.Future.Future F.Factory.Service.Service F.Factory.Service.Future.Future F.Factory.Service.Future.may_stand
+            (F.may_serve (factory_of self.new)) (F.may_leave (factory_of self.new)) (F.may_ready (factory_of self.new)) (F.may_init (factory_of self.new)) (F.may_make (factory_of self.new)) (services_of self.new) (hand_of self.new) }
+        ensures sound { IsSound F.Factory.Service.Future.Future F.Factory.Service.Future.may_stand (F.may_serve (factory_of self.new)) (F.may_leave (factory_of self.new)) (F.may_make (factory_of self.new))
+            (listeners_of self.new) (hand_of self.new) }
+        ensures factory { factory_of self.new ≡ factory_of self.old }
+        ensures listeners { listeners_of self.new ≡ listeners_of self.old }
+
+        // Each connection that came is queued, live, handed back or kept for handing back, once; and what was told is true.
+        ensures accounts { Accounts L.identity (hand_of self.old) (hand_of self.new) }
+        ensures tells { Tells (F.may_serve (factory_of self.new)) (F.may_leave (factory_of self.new)) (F.may_make (factory_of self.new)) (listeners_of self.new) (hand_of self.old) (hand_of self.new) }
+        ensures came { Receives (hand_of self.old) (hand_of self.new) }
+
+        // That all services stand is told once, and then only.
+        ensures ready { TellsReady (slots_of self.new) (hand_of self.old) (hand_of self.new) }
+        ensures ready_told { IsGoing result → made_of self.new ≡ true → told_of self.new ≡ true }
+
+        // Each live connection is polled once.
+        ensures polls { PollsLive L.identity (hand_of self.old) (hand_of self.new) }
+
+        // Once all services stand each is asked, once. Where every one is available, no connection that has one stays in the queue;
+        // and else none is admitted.
+        ensures asks { AsksUpTo (F.may_ready (factory_of self.new)) (core_of self.old) (core_of self.new) (cond (made_of self.new) (listeners_of self.new) 0) }
+        ensures admits { IsGoing result → made_of self.new ≡ true → state_of (core_of self.new) ≡ state.Available → queue_of self.new ≡ [] }
+        ensures waits { (made_of self.new ≡ true → state_of (core_of self.new) ≡ state.Available → ⊥) → Queues (hand_of self.old) (hand_of self.new) }
+
+        // It goes on only where it waits for something.
+        ensures going { IsGoing result → GoesOn (F.may_ready (factory_of self.new)) (slots_of self.old) (services_of self.new) (hand_of self.new) }
+        ensures emptied { result ≡ Going → known_items (parcels_of self.new) ≡ [] }
+        ensures short { result ≡ Short → 0 < length (known_items (parcels_of self.new)) }
+        ensures total { total_of self.new ≡ held_by self.new }
+        ensures left { (b : _) → result ≡ Left b → (b ≡ true) × (stopped_of self.new ≡ true) × (total_of self.new ≡ 0) }
+        ensures stays { IsGoing result → stopped_of self.new ≡ true → total_of self.new ≢ 0 }
+        ensures unstarted { (token : ℕ) (error : F.Factory.InitError) → result ≡ Unstarted token error
+            → (token < listeners_of self.new) × F.may_init (factory_of self.new) token error × (made_of self.new ≡ false) }
+        ensures faulted { (token : ℕ) (readiness : F.Factory.Error) (error : F.Factory.InitError) → result ≡ Faulted token readiness error → ⊥ }
+    {
+        let all = self.hand.take(self.services.slots.len());
+        match make_services(&self.factory, &mut self.services.slots, cx) {
+            Some((token, error)) => {
+                self.serve_live(cx);
+                Turned::Unstarted { token, error }
+            }
+            None => {
+                self.admit_ready(cx);
+                self.tell_ready();
+                self.serve_live(cx);
+                self.come_to(all)
+            }
+        }
+    }
+
+    // What the turn comes to, where it took `all` that was in the ring, or not.
+    fn come_to(
+        &self,
+        all: bool,
+    ) -> Turned<
+        <F::Factory as ServiceFactory<L>>::Error,
+        <F::Factory as ServiceFactory<L>>::InitError,
+    >
+        ensures { ComesTo self.now.hand.stopped self.now.total all result }
+    {
+        if self.hand.stopped && self.total == 0 {
+            return Turned::Left(true);
+        }
+        if all { Turned::Going } else { Turned::Short }
+    }
+}

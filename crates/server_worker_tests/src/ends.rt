@@ -1,0 +1,19 @@
+use rtrb::{Consumer, Producer};
+use server_jobs::{Note, Parcel};
+use server_run::MemoryLink;
+
+/// The ends of two rings that a worker does not have.
+#[derive(Drop)]
+pub(crate) struct Ends {
+    /// The end of the ring to it.
+    pub(crate) parcels: Producer<Parcel<MemoryLink>>,
+    /// The end of the ring back.
+    pub(crate) notes: Consumer<Note<MemoryLink>>,
+}
+
+impl Ends {
+    /// Tells the worker to stop. False where the ring has no place.
+    pub(crate) fn stop(&mut self) -> bool {
+        self.parcels.push(Parcel::Stop { graceful: true }).is_ok()
+    }
+}
