@@ -43,3 +43,14 @@ def instructions(command):
     if ran.returncode != 0 or not found:
         sys.exit(f"{words} ended with status {ran.returncode} and said {ran.stderr[-300:]!r}")
     return int(found[1])
+
+
+def allocations(command, library):
+    """The allocations of a run, counted by this library (checks/allocations.c, compiled), or None where there is none."""
+    if not os.path.exists(library):
+        return None
+    counted = f"{library}.counted"
+    told = dict(os.environ, LD_PRELOAD=library, COUNTED=counted)
+    subprocess.run([*map(str, command)], env=told, stdout=subprocess.DEVNULL, check=True)
+    with open(counted) as file:
+        return int(file.readline())

@@ -11,18 +11,10 @@ work=$(mktemp -d)
 trap 'rm -rf "$work"' EXIT
 ! command -v cc > /dev/null || cc -O1 -fPIC -shared -o "$work/allocations.so" "$top/checks/allocations.c"
 
-PYTHONPATH="$top/bench" python3 -B - "$top/crates/bench_requests/out/bench_requests" "$work" <<'PY'
-import os, subprocess, sys
-from measure import instructions
-program, work = sys.argv[1:]
-
-# The allocations of a run, or None where they can't be counted.
-def allocations(command):
-    library, counted = f"{work}/allocations.so", f"{work}/counted"
-    if not os.path.exists(library):
-        return None
-    subprocess.run(command, env=dict(os.environ, LD_PRELOAD=library, COUNTED=counted), stdout=subprocess.DEVNULL, check=True)
-    return int(open(counted).readline())
+PYTHONPATH="$top/bench" python3 -B - "$top/crates/bench_requests/out/bench_requests" "$work/allocations.so" <<'PY'
+import sys
+from measure import allocations, instructions
+program, library = sys.argv[1:]
 
 # What one request costs of what a run costs.
 def of_one(cost, kind, flight):
@@ -37,7 +29,7 @@ failed = False
 for kind, words in KINDS:
     costs = []
     for flight, way in FLIGHTS:
-        cost, memory = of_one(instructions, kind, flight), of_one(allocations, kind, flight)
+        cost, memory = of_one(instructions, kind, flight), of_one(lambda run: allocations(run, library), kind, flight)
         if cost is None:
             sys.exit("valgrind is not there")
         shown = "" if memory is None else f"{memory:8.2f} allocations"

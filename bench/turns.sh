@@ -14,18 +14,10 @@ work=$(mktemp -d)
 trap 'rm -rf "$work"' EXIT
 ! command -v cc > /dev/null || cc -O1 -fPIC -shared -o "$work/allocations.so" "$top/checks/allocations.c"
 
-PYTHONPATH="$top/bench" python3 -B - "$top/crates/bench_turns/out/bench_turns" "$top/crates/bench_requests/out/bench_requests" "$work" <<'PY'
-import os, subprocess, sys
-from measure import instructions
-turns_program, requests_program, work = sys.argv[1:]
-
-# The allocations of a run, or None where they can't be counted.
-def allocations(command):
-    library, counted = f"{work}/allocations.so", f"{work}/counted"
-    if not os.path.exists(library):
-        return None
-    subprocess.run(command, env=dict(os.environ, LD_PRELOAD=library, COUNTED=counted), stdout=subprocess.DEVNULL, check=True)
-    return int(open(counted).readline())
+PYTHONPATH="$top/bench" python3 -B - "$top/crates/bench_turns/out/bench_turns" "$top/crates/bench_requests/out/bench_requests" "$work/allocations.so" <<'PY'
+import sys
+from measure import allocations, instructions
+turns_program, requests_program, library = sys.argv[1:]
 
 # What one more costs, of a command whose last word is how many there are.
 def of_one(cost, command, few, many):
@@ -37,7 +29,7 @@ def costs(command, few, many):
     cost = of_one(instructions, command, few, many)
     if cost is None:
         sys.exit("valgrind is not there")
-    return cost, of_one(allocations, command, few, many)
+    return cost, of_one(lambda run: allocations(run, library), command, few, many)
 
 def shown(words, cost, memory, what):
     counted = "" if memory is None else f"{memory:8.2f} allocations"
