@@ -85,24 +85,33 @@ fn a_listed_start_is_refused_and_the_next_is_not(rt: HostRuntime) -> Result<(), 
     Ok(())
 }
 
-// The number that the next job tells of itself, where it is the one that its starter knows.
-fn next_number<Ho: Host + 'static, Sp: Spawner>(rt: &Ho, spawner: &mut Sp) -> Option<usize> {
-    let running = spawner.start(rt, Numbered).ok()?;
+// The number that the next job tells of itself, where it is the one that its starter knows. A refused start is want of memory.
+fn next_number<Ho: Host + 'static, Sp: Spawner>(
+    rt: &Ho,
+    spawner: &mut Sp,
+) -> Result<Option<usize>, AllocError> {
+    let Ok(running) = spawner.start(rt, Numbered) else {
+        return Err(AllocError);
+    };
     let number = running.number();
     let told = running.join(rt);
-    if told == number { Some(told) } else { None }
+    Ok(if told == number { Some(told) } else { None })
 }
 
 // Whether the first jobs are told apart by their numbers, from 0 on.
-fn are_numbered<Ho: Host + 'static, Sp: Spawner>(rt: &Ho, spawner: &mut Sp) -> bool {
-    next_number(rt, spawner) == Some(0)
-        && next_number(rt, spawner) == Some(1)
-        && next_number(rt, spawner) == Some(2)
+fn are_numbered<Ho: Host + 'static, Sp: Spawner>(
+    rt: &Ho,
+    spawner: &mut Sp,
+) -> Result<bool, AllocError> {
+    let first = next_number(rt, spawner)?;
+    let second = next_number(rt, spawner)?;
+    let third = next_number(rt, spawner)?;
+    Ok(first == Some(0) && second == Some(1) && third == Some(2))
 }
 
 #[test]
 fn jobs_are_numbered_as_they_are_started(rt: HostRuntime) -> Result<(), Fail> {
     let mut spawner = ThreadSpawner::new(rt.alloc())?;
-    assert!(rt; are_numbered(&rt, &mut spawner));
+    assert!(rt; are_numbered(&rt, &mut spawner)?);
     Ok(())
 }

@@ -59,8 +59,12 @@ fn turn_all<W: Wait, S: Station>(
     for turn in 0..trial.turns {
         prepare(trial, turn, ends, ledger)?;
         let ending = turn_once(rt, queue, station);
+        // (the rings are large enough: what is left in the one to it found no memory)
+        if station.was_short() {
+            return Err(AllocError);
+        }
         let is_full = ledger.take(ends)?;
-        ledger.weigh(station.total(), is_full || station.was_short());
+        ledger.weigh(station.total(), is_full);
         if ending.is_some() {
             return Ok(ending);
         }
