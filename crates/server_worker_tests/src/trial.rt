@@ -59,8 +59,8 @@ fn turn_all<W: Wait, S: Station>(
     for turn in 0..trial.turns {
         prepare(trial, turn, ends, ledger)?;
         let ending = turn_once(rt, queue, station);
-        // (the rings are large enough: what is left in the one to it found no memory)
-        if station.was_short() {
+        // (what it leaves in the ring to it found no memory)
+        if station.was_short() || ends.parcels.slots() < trial.inward {
             return Err(AllocError);
         }
         let is_full = ledger.take(ends)?;
