@@ -1,0 +1,32 @@
+use Rattle.std.proofs.Common.{◌≡◌, ◌<◌, [], refl, arith, length, rules}
+use Rattle.std.proofs.lemmas.List.Elements.{All-nil}
+use Rattle.server_run.proofs.Progress.{adds_none}
+use Rattle.server_jobs.specs.declared.note.Note.TheVariants.{Back}
+use Rattle.server_acceptor.proofs.NoteSteps.{looked_balance, looked_came, looked_kept, looked_rings}
+use Rattle.server_acceptor.proofs.acceptor.Acceptor.look.Goals as goal
+
+pub returns-clause-hands : goal.returns-clause-hands
+returns-clause-hands g c =
+    let inside : c.args.w < length c.args.self.now.notes.items = omega (arith, c.requires.number, c.args.self.now.workers.1) in
+    record {
+      entries = [];
+      adds = adds_none g.Do.Done.taken g.Do.Done.count g.Do.Done.served c.args.done.now (g.met.Do.Done.small c.args.done.now);
+      rings = looked_rings _ c.args.w _ _ inside c.index_mut.ensures.value c.slots.ensures.looked.1 c.slots.ensures.looked.0;
+      back = λ h. looked_came _ c.args.w _ _ inside c.index_mut.ensures.value c.slots.ensures.looked.1 g.L.Link.identity h;
+      noted = All-nil _;
+      kept = λ e. looked_kept _ c.args.w _ _ inside c.index_mut.ensures.value c.slots.ensures.looked.1 (Back e);
+      balance = looked_balance _ c.args.w _ _ inside c.index_mut.ensures.value c.slots.ensures.looked.1 g.L.Link.identity c.args.self.now.core.out;
+      ended = refl;
+      core_waiting = refl;
+      order = refl;
+      paused = refl;
+      parcels = refl;
+      waiting = refl;
+      stopped = refl;
+      serial = refl;
+      places = refl;
+      failed = refl;
+      limit = refl;
+      retry_limit = refl;
+      lacks_room = refl;
+    }
