@@ -5,4 +5,5 @@ pub mod LogSteps
 pub mod NoteSteps
 pub mod PlaceSteps
 pub mod Rotating
+pub mod Taking
 pub mod Trying

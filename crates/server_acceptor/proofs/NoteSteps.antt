@@ -1,5 +1,5 @@
 -- Which note of a worker comes next, and what came back, one part after the other.
-use Rattle.std.proofs.Common.{◌≡◌, ◌⊎◌, ℕ, zero, suc, ◌+◌, ◌^◌, ◌<◌, ◌≤◌, cond, List, [], ◌∷◌, ◌++◌, length, map, get_or, set, sum_by, ◌≢◌, All, Any, Contains, Option, Some, None, IfSome, refl, sym, ap, subst, ◌∙◌, arith, inl, inr, append_assoc, length-append, get_or-set_same, get_or-set_other}
+use Rattle.std.proofs.Common.{◌≡◌, ◌⊎◌, ℕ, zero, suc, ◌+◌, ◌^◌, ◌<◌, ◌≤◌, cond, List, [], ◌∷◌, ◌++◌, length, map, get_or, set, sum_by, ◌≢◌, All, Any, Contains, Option, Some, None, IfSome, refl, sym, ap, ap₂, subst, ◌∙◌, arith, inl, inr, append_assoc, length-append, get_or-set_same, get_or-set_other}
 use Rattle.std.specs.Prelude.{slice_get, slice_index}
 use Rattle.std.specs.Option.{option_map, option_map_or}
 use Rattle.std.proofs.Math.Seq.{map-set_same}
@@ -8,7 +8,8 @@ use Rattle.std.proofs.lemmas.Bool.{cases_eq}
 use Rattle.std.proofs.lemmas.List.Quantifiers.{any-set}
 use Rattle.std.proofs.lemmas.Option.{slice_get-get_or}
 use Rattle.std.proofs.lemmas.List.Sums.{sum_by-append, sum_by-set}
-use Rattle.std.proofs.lemmas.List.Elements.{All-nil, All-append}
+use Rattle.std.proofs.lemmas.List.{append-nil}
+use Rattle.std.proofs.lemmas.List.Elements.{All-nil, All-append, Contains-append_right}
 use Rattle.rtrb.specs.Ring.{known_items, received, SameConsumer}
 use Rattle.rtrb.specs.declared.consumer.Consumer.{Consumer}
 use Rattle.service_core.specs.Link.{Identity}
@@ -20,15 +21,42 @@ use Rattle.std.specs.Global.{Vec}
 use Rattle.server_core.specs.Core.{Core, held}
 use Rattle.server_core.specs.declared.event.Event.{Event}
 use Rattle.server_acceptor.specs.Logging.{Logs}
-use Rattle.server_acceptor.proofs.LogSteps.{logs_none}
+use Rattle.server_acceptor.proofs.LogSteps.{logs_none, logs_trans}
 use Rattle.server_run.proofs.Progress.{adds_none}
 use Rattle.server_jobs.specs.Cards.{Card, of_entry, of_note}
 use Rattle.server_acceptor.specs.Carrying.{came_back}
 use Rattle.server_acceptor.specs.Rings.{ring_out}
-use Rattle.server_acceptor.specs.Handing.{count_back, known_at, Hands}
+use Rattle.server_acceptor.specs.Accepting.{EndsByFault, Receives, is_back, received_at}
+use Rattle.server_acceptor.specs.Handing.{known_at, AllReturn, Hands}
+use Rattle.server_acceptor.specs.Notes.{count_back}
 use Rattle.server_acceptor.specs.declared.acceptor.Acceptor.{Acceptor}
 use Rattle.server_jobs.specs.declared.note.Note.{Note}
 use Rattle.server_jobs.specs.declared.note.Note.TheVariants.{Ready, Back, Faulted}
+
+-- ---- what was received, one part after the other
+module _ {L : Type 0} where
+  pub receives_none : (a : Acceptor L) (w : ℕ) → Receives a a w
+  receives_none a w = record { more = []; came = sym (append-nil (received_at a.notes.items w)) }
+
+  pub receives_same : (a b : Acceptor L) (w : ℕ) → b.notes ≡ a.notes → Receives a b w
+  receives_same a b w same = record { more = []; came = ap (λ v. received_at v.items w) same ∙ sym (append-nil (received_at a.notes.items w)) }
+
+  pub receives_trans : (a b c : Acceptor L) (w : ℕ) → Receives a b w → Receives b c w → Receives a c w
+  receives_trans a b c w p q = record {
+    more = p.more ++ q.more;
+    came = q.came ∙ ap (λ xs. xs ++ q.more) p.came ∙ append_assoc (received_at a.notes.items w) p.more q.more;
+  }
+
+  pub ends_later : (a b c : Acceptor L) (w : ℕ) → Receives a b w → EndsByFault b c w → EndsByFault a c w
+  ends_later a b c w p q = record {
+    more = p.more ++ q.more;
+    came = q.came ∙ ap (λ xs. xs ++ q.more) p.came ∙ append_assoc (received_at a.notes.items w) p.more q.more;
+    faulted = Contains-append_right p.more q.more _ q.faulted;
+  }
+
+all_return_append : (xs ys : List Event) → AllReturn xs → AllReturn ys → AllReturn (xs ++ ys)
+all_return_append [] ys first then_these = then_these
+all_return_append (x ∷ xs) ys first then_these = (first.0, all_return_append xs ys first.1 then_these)
 
 -- ---- holders that were given entries, one part after the other
 module _ {L D : Type 0} (taken : D → Option (List (Entry L))) (count served : D → ℕ) where
@@ -65,6 +93,15 @@ module _ {L D : Type 0} (taken : D → Option (List (Entry L))) (count served : 
     limit = refl;
     retry_limit = refl;
     lacks_room = refl;
+    first = refl;
+    failures = refl;
+    logs = logs_none;
+    returns = tt;
+    backs = λ w. omega arith;
+    ready = λ all. all;
+    marks = λ told. told;
+    early = λ none. refl;
+    receives = λ w. receives_none a w;
   }
 
   pub hands_trans : (identity : L → Identity) (a b c : Acceptor L) (d e f : D) → Hands identity taken count served a b d e → Hands identity taken count served b c e f → Hands identity taken count served a c d f
@@ -89,6 +126,15 @@ module _ {L D : Type 0} (taken : D → Option (List (Entry L))) (count served : 
     limit = q.limit ∙ p.limit;
     retry_limit = q.retry_limit ∙ p.retry_limit;
     lacks_room = q.lacks_room ∙ p.lacks_room;
+    first = q.first ∙ p.first;
+    failures = q.failures ∙ p.failures;
+    logs = logs_trans p.logs q.logs;
+    returns = all_return_append p.logs.more q.logs.more p.returns q.returns;
+    backs = λ w. omega (arith, p.backs w, q.backs w, sum_by-append (λ e. cond (is_back w e) 1 0) p.logs.more q.logs.more);
+    ready = λ all. q.ready (p.ready all);
+    marks = λ told. q.marks (p.marks told);
+    early = λ none. ap₂ (λ xs ys. xs ++ ys) (p.early none) (q.early (p.serial ∙ none));
+    receives = λ w. receives_trans a b c w (p.receives w) (q.receives w);
   }
 
 -- ---- one ring was looked at

@@ -1,6 +1,6 @@
 //! How the acceptor writes down what happens.
 ghost use Rattle.std.specs.Prelude.{List, ◌≡◌, ◌<◌, ◌++◌, ◌∷◌, [], length, vec_len, vec_capacity, true};
-ghost use Rattle.server_core.specs.Core.{Core, allowed, step};
+ghost use Rattle.server_core.specs.Core.{Core, IsKept, allowed, step};
 ghost use Rattle.server_core.specs.declared.event.Event.{Event as LogEvent};
 ghost use Rattle.server_acceptor.specs.Logging.{Logs};
 
@@ -15,6 +15,7 @@ pub(crate) fn log(core: &mut AcceptCore, events: &mut Vec<Event>, event: Event)
     ensures capacity { vec_capacity events.new ≡ vec_capacity events.old }
     ensures workers { length core.new.out ≡ length core.old.out }
     ensures listeners { length core.new.ended ≡ length core.old.ended }
+    ensures kept { IsKept core.new }
 {
     core.step(event);
     events.push_reserved(event);
