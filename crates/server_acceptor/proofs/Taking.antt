@@ -7,7 +7,7 @@ use Rattle.std.proofs.Math.ListN.{length-set}
 use Rattle.std.proofs.lemmas.Bool.{cases_eq}
 use Rattle.std.proofs.lemmas.Bool.Decides.{nat_tests}
 use Rattle.std.proofs.lemmas.List.{append-nil}
-use Rattle.std.proofs.lemmas.List.Elements.{Contains-append_left, Contains-append_right}
+use Rattle.std.proofs.lemmas.List.Elements.{Contains-append_left, Contains-append_right, Contains-push}
 use Rattle.std.proofs.lemmas.List.Sums.{sum_by-append}
 use Rattle.std.proofs.lemmas.Option.{slice_get-get_or}
 use Rattle.rtrb.specs.Ring.{known_items, received}
@@ -43,6 +43,19 @@ not_all_before xs w less = elim (list_all (λ r. r) xs) as (λ b. list_all (λ r
     | true ↦ λ all. absurd (true≢false (sym (all_marked xs w all) ∙ less))
     | false ↦ λ some. refl
   ] refl
+
+-- one note alone
+pub one_note : {X : Type 0} (x y : X) → x ≡ y → Contains (x ∷ []) y
+one_note x y is = subst (λ z. Contains (x ∷ []) z) is (Contains-push [] x)
+
+-- it weighs one, or none
+pub count_as_one : (before : ℕ) (test : Bool) (weight : ℕ) (count : ℕ) → weight ≡ 1 → count ≡ cond test 1 0 → before + cond test (0 + weight) 0 ≡ before + count
+count_as_one before true weight count one is = omega (arith, one, is)
+count_as_one before false weight count one is = omega (arith, is)
+
+pub count_as_none : (before : ℕ) (test : Bool) (weight : ℕ) → weight ≡ 0 → before + cond test (0 + weight) 0 ≡ before + 0
+count_as_none before true weight none = omega (arith, none)
+count_as_none before false weight none = refl
 
 -- the count of one worker fell
 pub out_elsewhere : (before after : List ℕ) (w v : ℕ) → after ≡ slice_set before w (slice_index before w - 1) → v ≢ w → slice_index after v ≡ slice_index before v
