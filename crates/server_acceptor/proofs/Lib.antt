@@ -1,9 +1,11 @@
 pub mod AskSteps
 pub mod CarrySteps
+pub mod DoesSteps
 pub mod HandSteps
 pub mod LogSteps
 pub mod NoteSteps
 pub mod PlaceSteps
 pub mod Rotating
 pub mod Taking
+pub mod StopSteps
 pub mod Trying
