@@ -1,5 +1,6 @@
 pub mod AskSteps
 pub mod CarrySteps
+pub mod DoesSteps
 pub mod HandSteps
 pub mod LogSteps
 pub mod NoteSteps

@@ -6,15 +6,15 @@ use Rattle.server_core.specs.Runs.{AllAllowed, after_all}
 use Rattle.server_core.specs.declared.event.Event.{Event}
 use Rattle.server_acceptor.specs.Logging.{AllOfUse, IsOfUse, Logs}
 
-after_append : (s : Core) (xs ys : List Event) → after_all s (xs ++ ys) ≡ after_all (after_all s xs) ys
+pub after_append : (s : Core) (xs ys : List Event) → after_all s (xs ++ ys) ≡ after_all (after_all s xs) ys
 after_append s [] ys = refl
 after_append s (x ∷ xs) ys = after_append (step s x) xs ys
 
-allowed_append : (s : Core) (xs ys : List Event) → AllAllowed s xs → AllAllowed (after_all s xs) ys → AllAllowed s (xs ++ ys)
+pub allowed_append : (s : Core) (xs ys : List Event) → AllAllowed s xs → AllAllowed (after_all s xs) ys → AllAllowed s (xs ++ ys)
 allowed_append s [] ys first then_these = then_these
 allowed_append s (x ∷ xs) ys first then_these = (first.0, allowed_append (step s x) xs ys first.1 then_these)
 
-of_use_append : (s : Core) (xs ys : List Event) → AllOfUse s xs → AllOfUse (after_all s xs) ys → AllOfUse s (xs ++ ys)
+pub of_use_append : (s : Core) (xs ys : List Event) → AllOfUse s xs → AllOfUse (after_all s xs) ys → AllOfUse s (xs ++ ys)
 of_use_append s [] ys first then_these = then_these
 of_use_append s (x ∷ xs) ys first then_these = (first.0, of_use_append (step s x) xs ys first.1 then_these)
 
