@@ -1,6 +1,7 @@
 -- How what waits goes to a worker, and what the core makes of it.
 use Rattle.std.proofs.Common.{◌≡◌, ◌≢◌, ℕ, zero, suc, ◌+◌, ◌*◌, ◌<◌, ◌≤◌, Bool, true, false, true≢false, cond, List, [], ◌∷◌, ◌++◌, length, map, get_or, set, Option, Some, None, refl, sym, ap, ap₂, subst, ◌∙◌, arith, append_assoc, append-nil, length-append, nat_lt, inl, inr, get_or-set_same, get_or-set_other}
-use Rattle.std.specs.Prelude.{◌&&◌, ◌||◌, ◌==◌, not, find, nat_eq, is_some, is_none, IfSome, slice_get, slice_set, slice_index, slice_index_or, vec_len}
+use Rattle.std.proofs.lemmas.List.Sums.{sum_by-set}
+use Rattle.std.specs.Prelude.{sum, ◌^◌, ◌&&◌, ◌||◌, ◌==◌, not, find, nat_eq, is_some, is_none, IfSome, slice_get, slice_set, slice_index, slice_index_or, vec_len}
 use Rattle.std.specs.List.{list_any, IsDistinct}
 use Rattle.std.specs.Option.{option_map}
 use Rattle.std.specs.FinSet as set
@@ -15,7 +16,7 @@ use Rattle.std.proofs.lemmas.Option.{slice_get_within, slice_get-get_or, get_or_
 use Rattle.rtrb.specs.Ring.{known_free, sent, SameProducer}
 use Rattle.rtrb.specs.declared.producer.Producer.{Producer}
 use Rattle.server_core.specs.Numbers.{Numbers, with_mark}
-use Rattle.server_core.specs.Core.{Core, allowed, first_free, in_order, is_at, is_worker, may_place, picked, round, behind, step}
+use Rattle.server_core.specs.Core.{Core, IsKept, allowed, first_free, in_order, is_at, is_worker, may_place, picked, round, behind, step}
 use Rattle.server_core.specs.declared.event.Event.{Event}
 use Rattle.server_core.specs.declared.event.Event.TheVariants.{RingFull, Notice, Sent}
 use Rattle.server_core.proofs.Picks.{finds, in_round}
@@ -142,3 +143,18 @@ back_again p w o same is = let e : p ≡ parcel_of w = cc in ap (λ q. waits_of 
 
 pub where_some : {X : Type 0} (P : X → Type 0) (o : Option X) (x : X) → o ≡ Some x → P x → IfSome o P
 where_some P o x is p = rw is p
+
+-- ---- a listener that failed as often as it may has ended
+abbrev pub IsPatient : Core → ℕ → Type 0
+IsPatient s limit = (t : ℕ) → slice_index_or s.ended t true ≡ false → slice_index s.failures t < limit
+
+pub patient_kept : (s u : Core) (limit : ℕ) → u.ended ≡ s.ended → u.failures ≡ s.failures → IsPatient s limit → IsPatient u limit
+patient_kept s u limit ended failures patient t opened = subst (λ fs. slice_index fs t < limit) (sym failures) (patient t (ap (λ es. slice_index_or es t true) (sym ended) ∙ opened))
+
+-- ---- one more is out
+pub sum_higher : (xs : List ℕ) (w : ℕ) → w < length xs → sum (slice_set xs w (slice_index xs w + 1)) ≡ sum xs + 1
+sum_higher xs w inside = omega (arith, sum_by-set (λ x. x) xs w (slice_index xs w + 1) 0 inside)
+
+-- as many are out as the core counts, and few enough
+pub out_fits : (s : Core) → IsKept s → sum s.out ≤ 2 ^ 60
+out_fits s kept = omega (arith, kept.balance, kept.bound)

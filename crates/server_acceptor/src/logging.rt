@@ -1,8 +1,6 @@
 //! How the acceptor writes down what happens.
-ghost use Rattle.std.specs.Prelude.{List, ◌≡◌, ◌<◌, ◌++◌, ◌∷◌, [], length, vec_len, vec_capacity, true};
-ghost use Rattle.server_core.specs.Core.{Core, allowed, step};
-ghost use Rattle.server_core.specs.declared.event.Event.{Event as LogEvent};
-ghost use Rattle.server_acceptor.specs.Logging.{Logs};
+ghost use Rattle.std.specs.Prelude.{◌≡◌, ◌<◌, ◌++◌, ◌∷◌, [], length, vec_len, vec_capacity, true};
+ghost use Rattle.server_core.specs.Core.{IsKept, allowed, step};
 
 use server_core::{AcceptCore, Event};
 
@@ -11,6 +9,7 @@ pub(crate) fn log(core: &mut AcceptCore, events: &mut Vec<Event>, event: Event)
     requires allowed { allowed core.old event ≡ true }
     requires room { vec_len events.old < vec_capacity events.old }
     ensures core { core.new ≡ step core.old event }
+    ensures kept { IsKept core.new }
     ensures events { events.new.items ≡ events.old.items ++ event ∷ [] }
     ensures capacity { vec_capacity events.new ≡ vec_capacity events.old }
     ensures workers { length core.new.out ≡ length core.old.out }
@@ -19,8 +18,3 @@ pub(crate) fn log(core: &mut AcceptCore, events: &mut Vec<Event>, event: Event)
     core.step(event);
     events.push_reserved(event);
 }
-
-/// Two parts of a log are a log.
-pub fn logs_join()
-    ensures { (a b c : Core) (xs ys zs : List LogEvent) → Logs a b xs ys → Logs b c ys zs → Logs a c xs zs }
-{}

@@ -74,6 +74,7 @@ impl<L: Link> Acceptor<L> {
                     &mut self.events,
                     Event::Sent { worker: w, remains },
                 );
+                self.out += 1;
                 true
             }
             Err(PushError::Full(parcel)) => {

@@ -1,11 +1,11 @@
 use Rattle.std.proofs.Common.{◌≡◌, ◌+◌, ◌<◌, ◌++◌, ◌∷◌, [], refl, sym, ◌∙◌, ap, append_assoc, arith, rules, vec_len, length}
-use Rattle.std.specs.Prelude.{slice_index}
+use Rattle.std.specs.Prelude.{slice_index, sum}
 use Rattle.std.proofs.Math.ListN.{length-set}
 use Rattle.server_core.specs.Core.{Core, step}
 use Rattle.server_core.specs.declared.event.Event.TheVariants.{Notice, RingFull}
 use Rattle.server_acceptor.specs.Placing.{parcel_of, PutsAt, Refuses, Sends, Stays}
 use Rattle.server_acceptor.proofs.HandSteps.{in_turn_kept}
-use Rattle.server_acceptor.proofs.PlaceSteps.{back_again, below_limit, keeps_sent, no_place_at, no_place_other, no_place_still, puts_at, ruled_after_sent, ruled_full}
+use Rattle.server_acceptor.proofs.PlaceSteps.{back_again, below_limit, keeps_sent, no_place_at, no_place_other, no_place_still, puts_at, out_fits, patient_kept, ruled_after_sent, ruled_full, sum_higher}
 use Rattle.server_acceptor.proofs.acceptor.Acceptor.offer.Goals as goal
 
 pub overflow_add-remains : goal.overflow_add-remains
@@ -62,3 +62,17 @@ invariant_of-self-clause-in_turn g c = in_turn_kept c.args.self.now.core c.log.n
 pub invariant_of-self-in-Err-Full-clause-in_turn : goal.invariant_of-self-in-Err-Full-clause-in_turn
 invariant_of-self-in-Err-Full-clause-in_turn g c = in_turn_kept c.args.self.now.core c.log-in-Err-Full-2.new.core
     (ap (λ (s : Core). s.order) (c.log-in-Err-Full-2.ensures.core ∙ ap (λ s. step s (Notice c.args.w)) c.log-in-Err-Full.ensures.core)) (c.log-in-Err-Full-2.ensures.workers ∙ c.log-in-Err-Full.ensures.workers) c.args.self.now.in_turn
+
+pub invariant_of-self-clause-patient : goal.invariant_of-self-clause-patient
+invariant_of-self-clause-patient g c = patient_kept c.args.self.now.core c.log.new.core _ (ap (λ (s : Core). s.ended) c.log.ensures.core) (ap (λ (s : Core). s.failures) c.log.ensures.core) c.args.self.now.patient
+
+pub invariant_of-self-in-Err-Full-clause-patient : goal.invariant_of-self-in-Err-Full-clause-patient
+invariant_of-self-in-Err-Full-clause-patient g c =
+    let is = c.log-in-Err-Full-2.ensures.core ∙ ap (λ s. step s (Notice c.args.w)) c.log-in-Err-Full.ensures.core in
+    patient_kept c.args.self.now.core c.log-in-Err-Full-2.new.core _ (ap (λ (s : Core). s.ended) is) (ap (λ (s : Core). s.failures) is) c.args.self.now.patient
+
+pub invariant_of-self-clause-out_counted : goal.invariant_of-self-clause-out_counted
+invariant_of-self-clause-out_counted g c = omega (arith, c.args.self.now.out_counted, sum_higher c.args.self.now.core.out c.args.w c.requires.number, ap (λ (s : Core). sum s.out) c.log.ensures.core)
+
+pub overflow_add-self : goal.overflow_add-self
+overflow_add-self g c = omega (arith, c.args.self.now.out_counted, out_fits _ c.log.ensures.kept, sum_higher c.args.self.now.core.out c.args.w c.requires.number, ap (λ (s : Core). sum s.out) c.log.ensures.core)
