@@ -6,6 +6,6 @@ pub mod LogSteps
 pub mod NoteSteps
 pub mod PlaceSteps
 pub mod Rotating
-pub mod Taking
 pub mod StopSteps
+pub mod Taking
 pub mod Trying
