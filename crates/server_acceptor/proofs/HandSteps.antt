@@ -167,12 +167,6 @@ lowered_freed s t u limit w xs ys zs ruled there full below some is more then_is
 pub out_lowered : (s t : Core) (w out : ℕ) → w < length s.out → 0 < slice_index s.out w → out ≡ sum s.out → t.out ≡ slice_set s.out w (slice_index s.out w - 1) → out - 1 ≡ sum t.out
 out_lowered s t w out below some is now = omega (arith, is, ap sum now, sum_lower s.out w below some)
 
-abbrev pub IsPatient : Core → ℕ → Type 0
-IsPatient s limit = (v : ℕ) → slice_index_or s.ended v true ≡ false → slice_index s.failures v < limit
-
-pub patient_kept : (s t : Core) (limit : ℕ) → t.ended ≡ s.ended → t.failures ≡ s.failures → IsPatient s limit → IsPatient t limit
-patient_kept s t limit ended failures are v left = subst (λ xs. slice_index xs v < limit) (sym failures) (are v (ap (λ xs. slice_index_or xs v true) (sym ended) ∙ left))
-
 -- a connection that comes back was given before
 pub given_some : (s t : Core) (w serial : ℕ) → t ≡ step s (BackOf w) → IsKept t → serial ≡ s.given → 0 < serial
 given_some s t w serial is kept counted = let k : IsKept (step s (BackOf w)) = subst IsKept is kept in omega (arith, counted, k.balance)

@@ -1,7 +1,8 @@
 use Rattle.std.proofs.Common.{◌≡◌, ◌≢◌, refl, sym, ◌∙◌, ap, arith, rules}
 use Rattle.server_core.specs.Core.{Core, step}
 use Rattle.server_core.specs.declared.event.Event.TheVariants.{Notice}
-use Rattle.server_acceptor.proofs.HandSteps.{given_some, in_turn_kept, lowered_back, lowered_freed, out_lowered, patient_kept, ruled_freed, ruled_lower, sum_lower}
+use Rattle.server_acceptor.proofs.HandSteps.{given_some, in_turn_kept, lowered_back, lowered_freed, out_lowered, ruled_freed, ruled_lower, sum_lower}
+use Rattle.server_acceptor.proofs.PlaceSteps.{patient_kept}
 use Rattle.server_acceptor.proofs.acceptor.Acceptor.lower.Goals as goal
 
 pub overflow_sub-self : goal.overflow_sub-self

@@ -169,7 +169,7 @@ returns-in-Back-clause-logs g c = c.lower.ensures.lowers.logs
 pub invariant_of-self-clause-workers : goal.invariant_of-self-clause-workers
 invariant_of-self-clause-workers g c =
     let w = c.args.self.now.workers in
-    (w.0, (length-set c.args.self.now.notes.items c.args.w c.pop_known.new.self ∙ w.1, (length-set c.args.self.now.ready.items c.args.w true ∙ w.2, w.3)))
+    (w.0, length-set c.args.self.now.notes.items c.args.w c.pop_known.new.self ∙ w.1, length-set c.args.self.now.ready.items c.args.w true ∙ w.2, w.3)
 
 pub lower-requires-clause-out : goal.lower-requires-clause-out
 lower-requires-clause-out g c = out_at_back c.args.self.now.notes.items c.args.w _ c.index_mut.result.now c.pop_known.result _ c.in-Back.entry (omega (arith, c.requires.number, c.args.self.now.workers.1)) c.index_mut.ensures.value c.pop_known.ensures.received.1 c.in-Back.is c.requires.may
