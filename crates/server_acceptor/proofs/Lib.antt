@@ -2,6 +2,7 @@ pub mod AskSteps
 pub mod CarrySteps
 pub mod DoesSteps
 pub mod HandSteps
+pub mod HandsDoes
 pub mod LogSteps
 pub mod NoteSteps
 pub mod PlaceSteps
