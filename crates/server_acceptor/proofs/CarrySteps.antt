@@ -18,7 +18,8 @@ use Rattle.server_run.specs.Listener.{IsTakenFrom}
 use Rattle.server_run.proofs.Lists.{first_left, once_below-more}
 use Rattle.server_acceptor.specs.AskingListeners.{AsksOnly, TakesUp}
 use Rattle.server_acceptor.specs.Listening.{AsksAt, Gives, GivesNone}
-use Rattle.server_acceptor.specs.Handing.{count_back, Hands}
+use Rattle.server_acceptor.specs.Handing.{Hands}
+use Rattle.server_acceptor.specs.Notes.{count_back}
 use Rattle.server_acceptor.specs.Placing.{parcel_of, IsPlaced, KeepsSent, NoneWaits, PutsAt, Stays, StillWaits, WasSent}
 use Rattle.server_acceptor.specs.Rings.{count_put, ring_in}
 use Rattle.server_acceptor.specs.declared.placed.Placed.{Placed}

@@ -2,10 +2,12 @@ pub mod AskSteps
 pub mod CarrySteps
 pub mod DoesSteps
 pub mod HandSteps
+pub mod HandsDoes
 pub mod LogSteps
 pub mod NewSteps
 pub mod NoteSteps
 pub mod PlaceSteps
 pub mod Rotating
 pub mod StopSteps
+pub mod Taking
 pub mod Trying

@@ -21,7 +21,7 @@ use Rattle.server_jobs.specs.declared.parcel.Parcel.TheVariants.{Stop}
 use Rattle.server_acceptor.specs.Accepting.{Does, Proceeds, received_at}
 use Rattle.server_acceptor.specs.Acceptors.{events_of}
 use Rattle.server_acceptor.specs.Carrying.{Carries, IsInPlace, ParcelIsInPlace, came_back, each, has_place, has_serial, in_waiting, put}
-use Rattle.server_acceptor.specs.Handing.{count_back}
+use Rattle.server_acceptor.specs.Notes.{count_back}
 use Rattle.server_acceptor.specs.Placing.{KeepsSent, PutsAt}
 use Rattle.server_acceptor.specs.Rings.{count_put, ring_in, ring_out}
 use Rattle.server_acceptor.specs.Stopping.{StopsOnly}

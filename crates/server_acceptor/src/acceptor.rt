@@ -53,6 +53,7 @@ pub struct Acceptor<L> {
     ghost placed: { serial ≡ sum places.items },
     ghost small: { (t : ℕ) → slice_index_or places.items t 0 < 2 ^ 48 },
     ghost out_counted: { out ≡ sum core.out },
+    ghost fits: { sum core.out ≤ core.given },
     // Nothing is accepted before all services stand.
     ghost early: { list_all (λ ready. ready) ready.items ≡ false → serial ≡ 0 },
     // Nothing tells it to pause or to stop.
