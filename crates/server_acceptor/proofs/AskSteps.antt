@@ -50,7 +50,7 @@ all_below_set xs t n most below all v = elim (cases_eq v t) [
 abbrev pub ArePatient : Core → ℕ → Type 0
 ArePatient s limit = (t : ℕ) → slice_index_or s.ended t true ≡ false → slice_index s.failures t < limit
 
-opened_at : (s : Core) (t : ℕ) → is_open s t ≡ true → slice_index_or s.ended t true ≡ false
+pub opened_at : (s : Core) (t : ℕ) → is_open s t ≡ true → slice_index_or s.ended t true ≡ false
 opened_at s t opened = by_both (nat_lt t (length s.ended)) (slice_index_or s.ended t true) opened
   where
     by_both : (p q : Bool) → (p && not q) ≡ true → q ≡ false
