@@ -18,9 +18,10 @@ use Rattle.server_run.specs.Listener.{IsTakenFrom}
 use Rattle.server_run.proofs.Lists.{first_left, once_below-more}
 use Rattle.server_acceptor.specs.AskingListeners.{AsksOnly, TakesUp}
 use Rattle.server_acceptor.specs.Listening.{AsksAt, Gives, GivesNone}
-use Rattle.server_acceptor.specs.Handing.{count_back, Hands}
+use Rattle.server_acceptor.specs.Handing.{Hands}
+use Rattle.server_acceptor.specs.Notes.{count_back}
 use Rattle.server_acceptor.specs.Placing.{parcel_of, IsPlaced, KeepsSent, NoneWaits, PutsAt, Stays, StillWaits, WasSent}
-use Rattle.server_acceptor.specs.Rings.{ring_in}
+use Rattle.server_acceptor.specs.Rings.{count_put, ring_in}
 use Rattle.server_acceptor.specs.declared.placed.Placed.{Placed}
 use Rattle.server_acceptor.specs.declared.placed.Placed.TheVariants.{Sent, Waiting, Nothing}
 use Rattle.server_acceptor.specs.declared.acceptor.Acceptor.{Acceptor}
@@ -58,20 +59,16 @@ module _ {L A P : Type 0} (identity : L → Identity) where
       sum_by-set (λ xs. sum_by (of_parcel identity h) xs) (map (λ p. sent p) ps) w (slice_index_or (map (λ p. sent p) ps) w [] ++ item ∷ []) [] (omega (arith, p.inside, length_mapped (λ p. sent p) ps)),
       sum_by_push (of_parcel identity h) (slice_index_or (map (λ p. sent p) ps) w []) item)
 
-  -- how many connections went to a worker
-  abbrev pub count_put : List (Producer (Parcel L) A P) → ℕ → ℕ
-  count_put ps w = option_map_or (λ p. sum_by (of_parcel identity (λ c. 1)) (sent p)) (slice_get ps w) 0
-
-  count_as : (ps : List (Producer (Parcel L) A P)) (w : ℕ) → count_put ps w ≡ sum_by (of_parcel identity (λ c. 1)) (slice_index_or (map (λ p. sent p) ps) w [])
+  count_as : (ps : List (Producer (Parcel L) A P)) (w : ℕ) → count_put identity ps w ≡ sum_by (of_parcel identity (λ c. 1)) (slice_index_or (map (λ p. sent p) ps) w [])
   count_as [] w = refl
   count_as (p ∷ ps) zero = refl
   count_as (p ∷ ps) (suc w) = count_as ps w
 
-  pub count_kept : (ps qs : List (Producer (Parcel L) A P)) (w : ℕ) → KeepsSent ps qs → count_put qs w ≡ count_put ps w
+  pub count_kept : (ps qs : List (Producer (Parcel L) A P)) (w : ℕ) → KeepsSent ps qs → count_put identity qs w ≡ count_put identity ps w
   count_kept ps qs w k = count_as qs w ∙ ap (λ xs. sum_by (of_parcel identity (λ c. 1)) (slice_index_or xs w [])) k.sent_on ∙ sym (count_as ps w)
 
   pub count_sent : (ps qs : List (Producer (Parcel L) A P)) (w v : ℕ) (item : Parcel L) (before after : List ℕ) → PutsAt ps qs w item → of_parcel identity (λ c. 1) item ≡ 1 → w < length before
-      → after ≡ slice_set before w (slice_index before w + 1) → count_put qs v + slice_index before v ≡ count_put ps v + slice_index after v
+      → after ≡ slice_set before w (slice_index before w + 1) → count_put identity qs v + slice_index before v ≡ count_put identity ps v + slice_index after v
   count_sent ps qs w v item before after p one within is =
       let now = ap (λ xs. sum_by (of_parcel identity (λ c. 1)) (slice_index_or xs v [])) p.sent_on in
       elim (cases_eq v w) [
@@ -82,6 +79,18 @@ module _ {L A P : Type 0} (identity : L → Identity) where
         | inr other ↦ omega (arith, count_as qs v, count_as ps v, now,
             ap (sum_by (of_parcel identity (λ c. 1))) (get_or-set_other (map (λ p. sent p) ps) w v (slice_index_or (map (λ p. sent p) ps) w [] ++ item ∷ []) [] other),
             ap (λ xs. slice_index xs v) is, get_or-set_other before w v (slice_index before w + 1) 0 other)
+      ]
+
+  -- what weighs nothing does not count
+  pub count_nothing : (ps qs : List (Producer (Parcel L) A P)) (w v : ℕ) (item : Parcel L) → PutsAt ps qs w item → of_parcel identity (λ c. 1) item ≡ 0 → count_put identity qs v ≡ count_put identity ps v
+  count_nothing ps qs w v item p none =
+      let now = ap (λ xs. sum_by (of_parcel identity (λ c. 1)) (slice_index_or xs v [])) p.sent_on in
+      elim (cases_eq v w) [
+        | inl same ↦ rw same (omega (arith, count_as qs w, count_as ps w, none, ap (λ xs. sum_by (of_parcel identity (λ c. 1)) (slice_index_or xs w [])) p.sent_on,
+            ap (sum_by (of_parcel identity (λ c. 1))) (get_or-set_same (map (λ p. sent p) ps) w (slice_index_or (map (λ p. sent p) ps) w [] ++ item ∷ []) [] (omega (arith, p.inside, length_mapped (λ p. sent p) ps))),
+            sum_by_push (of_parcel identity (λ c. 1)) (slice_index_or (map (λ p. sent p) ps) w []) item))
+        | inr other ↦ omega (arith, count_as qs v, count_as ps v, now,
+            ap (sum_by (of_parcel identity (λ c. 1))) (get_or-set_other (map (λ p. sent p) ps) w v (slice_index_or (map (λ p. sent p) ps) w [] ++ item ∷ []) [] other))
       ]
 
 module _ {L : Type 0} (Q : Parcel L → Type 0) where

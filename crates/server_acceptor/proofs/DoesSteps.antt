@@ -45,7 +45,7 @@ rose_either (suc n) m x y z some f g e h = let r = f (omega arith) in omega arit
 
 module _ {Li L D : Type 0} (given : Li → ℕ) (left : Li → Option (List L)) (identity : L → Identity) (ended : Li → Bool) (faults : Li → ℕ)
     (taken : D → Option (List (Entry L))) (count served : D → ℕ) where
-  untouched_none : (ls : List Li) (d : D) → Untouched given left taken count served ls ls d d
+  pub untouched_none : (ls : List Li) (d : D) → Untouched given left taken count served ls ls d d
   untouched_none ls d = record { given_same = λ t. refl; left_same = λ t. refl; keeps = record { list = refl; number = refl; number_served = refl } }
 
   untouched_trans : (l m n : List Li) (x y z : D) → Untouched given left taken count served l m x y → Untouched given left taken count served m n y z → Untouched given left taken count served l n x z

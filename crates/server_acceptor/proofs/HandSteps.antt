@@ -1,6 +1,6 @@
 -- What comes back from the workers, one note after the other.
 use Rattle.std.proofs.Common.{◌≡◌, ◌≢◌, ℕ, zero, suc, ◌+◌, ◌-◌, ◌<◌, ◌≤◌, Bool, true, false, true≢false, cond, List, [], ◌∷◌, ◌++◌, length, map, get_or, set, sum_by, All, Any, Contains, Option, Some, None, IfSome, refl, sym, ap, subst, ◌∙◌, arith, nat_lt, inl, inr, get_or-set_same, get_or-set_other, append-nil, append_assoc}
-use Rattle.std.specs.Prelude.{◌&&◌, ◌||◌, not, nat_eq, slice_get, slice_set, slice_index, slice_index_or, sum}
+use Rattle.std.specs.Prelude.{◌&&◌, ◌||◌, not, count_by, nat_eq, slice_get, slice_set, slice_index, slice_index_or, sum}
 use Rattle.std.specs.Option.{option_map_or}
 use Rattle.std.specs.FinSet as set
 use Rattle.std.specs.FinSet.{contains-insert}
@@ -17,13 +17,15 @@ use Rattle.rtrb.specs.Ring.{known_items, received, SameConsumer}
 use Rattle.rtrb.specs.declared.consumer.Consumer.{Consumer}
 use Rattle.service_core.specs.Link.{Identity}
 use Rattle.server_core.specs.Numbers.{Numbers}
-use Rattle.server_core.specs.Core.{Core, held, in_order, is_worker, step}
+use Rattle.server_core.specs.Core.{Core, IsKept, held, in_order, is_worker, step}
 use Rattle.server_core.specs.declared.event.Event.{Event}
 use Rattle.server_core.specs.declared.event.Event.TheVariants.{Notice, Back as BackOf}
 use Rattle.server_run.specs.declared.entry.Entry.{Entry}
 use Rattle.server_jobs.specs.Cards.{Card, of_entry, of_note}
 use Rattle.server_acceptor.specs.Carrying.{came_back}
-use Rattle.server_acceptor.specs.Handing.{count_back, MayTake}
+use Rattle.server_acceptor.specs.Accepting.{is_back}
+use Rattle.server_acceptor.specs.Handing.{AllReturn, MayTake}
+use Rattle.server_acceptor.specs.Notes.{count_back}
 use Rattle.server_acceptor.specs.Rings.{ring_out}
 use Rattle.server_jobs.specs.declared.note.Note.{Note}
 use Rattle.server_jobs.specs.declared.note.Note.TheVariants.{Back}
@@ -148,6 +150,26 @@ freed_logs s t u limit w xs ys zs ruled there full below some is more then_is th
     logs_trans (back_logs s t w xs ys below some is more)
       (logs_one t u ys zs (Notice w) number
         (ap (λ (c : Core). in_order c.order w) is ∙ there, ap (λ (c : Core). set.contains c.free w) is ∙ full_not_free s limit w ruled there full) then_is then_more)
+
+-- the same, with what these events are
+pub lowered_back : (s t : Core) (w : ℕ) (xs ys : List Event) → w < length s.out → 0 < slice_index s.out w → t ≡ step s (BackOf w) → ys ≡ xs ++ BackOf w ∷ []
+    → (logs : Logs s t xs ys) × (AllReturn logs.more × ((v : ℕ) → count_by (is_back v) logs.more ≡ cond (nat_eq w v) 1 0))
+unfolding back_logs
+lowered_back s t w xs ys below some is more = (back_logs s t w xs ys below some is more, ((inl (w, refl), tt), λ v. omega arith))
+
+pub lowered_freed : (s t u : Core) (limit w : ℕ) (xs ys zs : List Event) → IsRuled s limit → in_order s.order w ≡ true → slice_index s.out w ≡ limit → w < length s.out → 0 < slice_index s.out w
+    → t ≡ step s (BackOf w) → ys ≡ xs ++ BackOf w ∷ [] → u ≡ step t (Notice w) → zs ≡ ys ++ Notice w ∷ []
+    → (logs : Logs s u xs zs) × (AllReturn logs.more × ((v : ℕ) → count_by (is_back v) logs.more ≡ cond (nat_eq w v) 1 0))
+unfolding freed_logs back_logs
+lowered_freed s t u limit w xs ys zs ruled there full below some is more then_is then_more =
+    (freed_logs s t u limit w xs ys zs ruled there full below some is more then_is then_more, ((inl (w, refl), (inr (w, refl), tt)), λ v. omega arith))
+
+pub out_lowered : (s t : Core) (w out : ℕ) → w < length s.out → 0 < slice_index s.out w → out ≡ sum s.out → t.out ≡ slice_set s.out w (slice_index s.out w - 1) → out - 1 ≡ sum t.out
+out_lowered s t w out below some is now = omega (arith, is, ap sum now, sum_lower s.out w below some)
+
+-- a connection that comes back was given before
+pub given_some : (s t : Core) (w serial : ℕ) → t ≡ step s (BackOf w) → IsKept t → serial ≡ s.given → 0 < serial
+given_some s t w serial is kept counted = let k : IsKept (step s (BackOf w)) = subst IsKept is kept in omega (arith, counted, k.balance)
 
 pub out_some : (out : List ℕ) (w held_now spare : ℕ) → w < length out → 0 < slice_index out w → sum out + held_now ≤ spare → 0 < spare
 out_some out w held_now spare below some h = omega (arith, sum_lower out w below some)

@@ -7,4 +7,6 @@ pub mod LogSteps
 pub mod NoteSteps
 pub mod PlaceSteps
 pub mod Rotating
+pub mod StopSteps
+pub mod Taking
 pub mod Trying

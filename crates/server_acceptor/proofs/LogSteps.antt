@@ -18,13 +18,13 @@ pub of_use_append : (s : Core) (xs ys : List Event) → AllOfUse s xs → AllOfU
 of_use_append s [] ys first then_these = then_these
 of_use_append s (x ∷ xs) ys first then_these = (first.0, of_use_append (step s x) xs ys first.1 then_these)
 
-pub logs_none : {s : Core} {events : List Event} → Logs s s events events
+abbrev pub logs_none : {s : Core} {events : List Event} → Logs s s events events
 logs_none {s} {events} = record { more = []; appended = sym (append-nil events); allowed = tt; of_use = tt; core = refl }
 
-pub logs_one : (s t : Core) (events after : List Event) (event : Event) → allowed s event ≡ true → IsOfUse s event → t ≡ step s event → after ≡ events ++ event ∷ [] → Logs s t events after
+abbrev pub logs_one : (s t : Core) (events after : List Event) (event : Event) → allowed s event ≡ true → IsOfUse s event → t ≡ step s event → after ≡ events ++ event ∷ [] → Logs s t events after
 logs_one s t events after event may use_of is appended = record { more = event ∷ []; appended = appended; allowed = (may, tt); of_use = (use_of, tt); core = is }
 
-pub logs_trans : {a b c : Core} {xs ys zs : List Event} → Logs a b xs ys → Logs b c ys zs → Logs a c xs zs
+abbrev pub logs_trans : {a b c : Core} {xs ys zs : List Event} → Logs a b xs ys → Logs b c ys zs → Logs a c xs zs
 logs_trans {a} {b} {c} {xs} {ys} {zs} p q = record {
   more = p.more ++ q.more;
   appended = q.appended ∙ ap (λ es. es ++ q.more) p.appended ∙ append_assoc xs p.more q.more;

@@ -1,14 +1,15 @@
 -- Which note of a worker comes next, and what came back, one part after the other.
-use Rattle.std.proofs.Common.{◌≡◌, ◌⊎◌, ℕ, zero, suc, ◌+◌, ◌^◌, ◌<◌, ◌≤◌, cond, List, [], ◌∷◌, ◌++◌, length, map, get_or, set, sum_by, ◌≢◌, All, Any, Contains, Option, Some, None, IfSome, refl, sym, ap, subst, ◌∙◌, arith, inl, inr, append_assoc, length-append, get_or-set_same, get_or-set_other}
-use Rattle.std.specs.Prelude.{slice_get, slice_index}
+use Rattle.std.proofs.Common.{◌≡◌, ◌⊎◌, ℕ, zero, suc, ◌+◌, ◌*◌, ◌^◌, ◌<◌, ◌≤◌, cond, List, [], ◌∷◌, ◌++◌, length, map, get_or, set, sum_by, ◌≢◌, All, Any, Contains, Option, Some, None, IfSome, refl, sym, ap, ap₂, subst, ◌∙◌, arith, inl, inr, append_assoc, length-append, get_or-set_same, get_or-set_other}
+use Rattle.std.specs.Prelude.{slice_get, slice_index, vec_len}
 use Rattle.std.specs.Option.{option_map, option_map_or}
 use Rattle.std.proofs.Math.Seq.{map-set_same}
 use Rattle.std.proofs.Math.ListN.{length-set}
-use Rattle.std.proofs.lemmas.Bool.{cases_eq}
+use Rattle.std.proofs.lemmas.Bool.{cases_eq, cases_lt}
 use Rattle.std.proofs.lemmas.List.Quantifiers.{any-set}
-use Rattle.std.proofs.lemmas.Option.{slice_get-get_or}
+use Rattle.std.proofs.lemmas.Option.{slice_get-get_or, slice_get_past}
 use Rattle.std.proofs.lemmas.List.Sums.{sum_by-append, sum_by-set}
-use Rattle.std.proofs.lemmas.List.Elements.{All-nil, All-append}
+use Rattle.std.proofs.lemmas.List.{append-nil}
+use Rattle.std.proofs.lemmas.List.Elements.{All-nil, All-append, Contains-append_right}
 use Rattle.rtrb.specs.Ring.{known_items, received, SameConsumer}
 use Rattle.rtrb.specs.declared.consumer.Consumer.{Consumer}
 use Rattle.service_core.specs.Link.{Identity}
@@ -19,16 +20,45 @@ use Rattle.std.specs.Global.{Vec}
 
 use Rattle.server_core.specs.Core.{Core, held}
 use Rattle.server_core.specs.declared.event.Event.{Event}
+use Rattle.server_core.specs.declared.event.Event.TheVariants.{Notice, Back as BackOf}
 use Rattle.server_acceptor.specs.Logging.{Logs}
-use Rattle.server_acceptor.proofs.LogSteps.{logs_none}
+use Rattle.server_acceptor.proofs.LogSteps.{logs_none, logs_trans}
 use Rattle.server_run.proofs.Progress.{adds_none}
 use Rattle.server_jobs.specs.Cards.{Card, of_entry, of_note}
 use Rattle.server_acceptor.specs.Carrying.{came_back}
 use Rattle.server_acceptor.specs.Rings.{ring_out}
-use Rattle.server_acceptor.specs.Handing.{count_back, known_at, Hands}
+use Rattle.server_acceptor.specs.Accepting.{EndsByFault, HasTold, IsShort, Receives, is_back, received_at, refused, refused_by}
+use Rattle.server_acceptor.specs.Acceptors.{events_of, workers_of}
+use Rattle.server_acceptor.specs.Handing.{known_at, AllReturn, Hands}
+use Rattle.server_acceptor.specs.Notes.{count_back}
 use Rattle.server_acceptor.specs.declared.acceptor.Acceptor.{Acceptor}
 use Rattle.server_jobs.specs.declared.note.Note.{Note}
 use Rattle.server_jobs.specs.declared.note.Note.TheVariants.{Ready, Back, Faulted}
+
+-- ---- what was received, one part after the other
+module _ {L : Type 0} where
+  pub receives_none : (a : Acceptor L) (w : ℕ) → Receives a a w
+  receives_none a w = record { more = []; came = sym (append-nil (received_at a.notes.items w)) }
+
+  pub receives_same : (a b : Acceptor L) (w : ℕ) → b.notes ≡ a.notes → Receives a b w
+  receives_same a b w same = record { more = []; came = ap (λ v. received_at v.items w) same ∙ sym (append-nil (received_at a.notes.items w)) }
+
+  pub receives_trans : (a b c : Acceptor L) (w : ℕ) → Receives a b w → Receives b c w → Receives a c w
+  receives_trans a b c w p q = record {
+    more = p.more ++ q.more;
+    came = q.came ∙ ap (λ xs. xs ++ q.more) p.came ∙ append_assoc (received_at a.notes.items w) p.more q.more;
+  }
+
+  pub ends_later : (a b c : Acceptor L) (w : ℕ) → Receives a b w → EndsByFault b c w → EndsByFault a c w
+  ends_later a b c w p q = record {
+    more = p.more ++ q.more;
+    came = q.came ∙ ap (λ xs. xs ++ q.more) p.came ∙ append_assoc (received_at a.notes.items w) p.more q.more;
+    faulted = Contains-append_right p.more q.more _ q.faulted;
+  }
+
+all_return_append : (xs ys : List Event) → AllReturn xs → AllReturn ys → AllReturn (xs ++ ys)
+all_return_append [] ys first then_these = then_these
+all_return_append (x ∷ xs) ys first then_these = (first.0, all_return_append xs ys first.1 then_these)
 
 -- ---- holders that were given entries, one part after the other
 module _ {L D : Type 0} (taken : D → Option (List (Entry L))) (count served : D → ℕ) where
@@ -65,6 +95,15 @@ module _ {L D : Type 0} (taken : D → Option (List (Entry L))) (count served : 
     limit = refl;
     retry_limit = refl;
     lacks_room = refl;
+    first = refl;
+    failures = refl;
+    logs = logs_none;
+    returns = tt;
+    backs = λ w. omega arith;
+    ready = λ all. all;
+    marks = λ told. told;
+    early = λ none. refl;
+    receives = λ w. receives_none a w;
   }
 
   pub hands_trans : (identity : L → Identity) (a b c : Acceptor L) (d e f : D) → Hands identity taken count served a b d e → Hands identity taken count served b c e f → Hands identity taken count served a c d f
@@ -89,6 +128,15 @@ module _ {L D : Type 0} (taken : D → Option (List (Entry L))) (count served : 
     limit = q.limit ∙ p.limit;
     retry_limit = q.retry_limit ∙ p.retry_limit;
     lacks_room = q.lacks_room ∙ p.lacks_room;
+    first = q.first ∙ p.first;
+    failures = q.failures ∙ p.failures;
+    logs = logs_trans p.logs q.logs;
+    returns = all_return_append p.logs.more q.logs.more p.returns q.returns;
+    backs = λ w. omega (arith, p.backs w, q.backs w, sum_by-append (λ e. cond (is_back w e) 1 0) p.logs.more q.logs.more);
+    ready = λ all. q.ready (p.ready all);
+    marks = λ told. q.marks (p.marks told);
+    early = λ none. ap₂ (λ xs ys. xs ++ ys) (p.early none) (q.early (p.serial ∙ none));
+    receives = λ w. receives_trans a b c w (p.receives w) (q.receives w);
   }
 
 -- ---- one ring was looked at
@@ -150,3 +198,48 @@ length_mapped h (x ∷ xs) = ap suc (length_mapped h xs)
 pub same_workers : {L D : Type 0} (identity : L → Identity) (taken : D → Option (List (Entry L))) (count served : D → ℕ) (a b : Acceptor L) (d e : D) → Hands identity taken count served a b d e → length b.core.out ≡ length a.core.out
 same_workers identity taken count served a b d e hands =
     omega (arith, a.workers.1, b.workers.1, ap (λ xs. length xs) hands.rings, length_mapped (λ c. ring_out c) a.notes.items, length_mapped (λ c. ring_out c) b.notes.items)
+
+-- ---- what becomes of the rest as notes are taken
+refused_returns : (full : Option (List ℕ)) (events : List Event) → AllReturn events → refused full events ≡ full
+refused_returns full [] all = refl
+refused_returns None (e ∷ events) all = refused_returns None events all.1
+refused_returns (Some full) (e ∷ events) all = elim all.0 [
+    | inl back ↦ rw back.1 (refused_returns (Some full) events all.1)
+    | inr notice ↦ rw notice.1 (refused_returns (Some full) events all.1)
+  ]
+
+pub refused_append : (full : Option (List ℕ)) (xs ys : List Event) → refused full (xs ++ ys) ≡ refused (refused full xs) ys
+refused_append full [] ys = refl
+refused_append full (x ∷ xs) ys = refused_append (refused_by full x) xs ys
+
+pub refused_again : {L D : Type 0} (identity : L → Identity) (taken : D → Option (List (Entry L))) (count served : D → ℕ) (a b : Acceptor L) (d e : D) → Hands identity taken count served a b d e
+    → refused (Some []) (events_of b) ≡ refused (Some []) (events_of a)
+refused_again identity taken count served a b d e hands = ap (λ es. refused (Some []) es) hands.logs.appended ∙ refused_append (Some []) a.events.items hands.logs.more
+    ∙ refused_returns (refused (Some []) a.events.items) hands.logs.more hands.returns
+
+-- room for events gets no more
+pub short_still : {L D : Type 0} (identity : L → Identity) (taken : D → Option (List (Entry L))) (count served : D → ℕ) (a b : Acceptor L) (d e : D) → Hands identity taken count served a b d e → IsShort a → IsShort b
+short_still identity taken count served a b d e hands short =
+    omega (arith, short, same_workers identity taken count served a b d e hands, ap (λ es. length es) hands.logs.appended, length-append a.events.items hands.logs.more)
+
+pub told_or_short : {L : Type 0} (a : Acceptor L) (w : ℕ) → HasTold a w ⊎ (8 * length a.core.out + 600 < vec_len a.events + 2) → HasTold a w ⊎ IsShort a
+told_or_short a w (inl told) = inl told
+told_or_short a w (inr short) = inr (omega (arith, short, a.events.ok.0))
+
+-- the notes of all workers up to one were taken
+pub told_up_to : {L D : Type 0} (identity : L → Identity) (taken : D → Option (List (Entry L))) (count served : D → ℕ) (a b : Acceptor L) (d e : D) (w : ℕ) → Hands identity taken count served a b d e
+    → ((v : ℕ) → v ≢ w → HasTold a v → HasTold b v) → HasTold b w ⊎ IsShort b → ((v : ℕ) → v < w → HasTold a v ⊎ IsShort a) → (v : ℕ) → v < w + 1 → HasTold b v ⊎ IsShort b
+told_up_to identity taken count served a b d e w hands others this before v below = elim (cases_eq v w) [
+    | inl same ↦ rw same this
+    | inr differ ↦ elim (before v (omega (arith, below, differ))) [
+      | inl told ↦ inl (others v differ told)
+      | inr short ↦ inr (short_still identity taken count served a b d e hands short)
+    ]
+  ]
+
+-- beyond them is none
+pub told_all : {L : Type 0} (a : Acceptor L) (n : ℕ) → n ≡ length a.notes.items → ((v : ℕ) → v < n → HasTold a v ⊎ IsShort a) → (v : ℕ) → HasTold a v ⊎ IsShort a
+told_all a n is before v = elim (cases_lt v n) [
+    | inl below ↦ before v below
+    | inr beyond ↦ inl (rw (slice_get_past a.notes.items v (omega (arith, is, beyond))) tt)
+  ]

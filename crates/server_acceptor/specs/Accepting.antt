@@ -18,8 +18,8 @@ use Rattle.server_run.specs.declared.report.End.TheVariants.{Drained, Memory}
 use Rattle.server_jobs.specs.declared.note.Note.TheVariants.{Ready as ReadyNote, Faulted as FaultedNote}
 use Rattle.server_jobs.specs.declared.note.Note.{Note}
 use Rattle.server_acceptor.specs.Carrying.{Carries}
-use Rattle.server_acceptor.specs.Handing.{IsBackFirst, count_back}
 use Rattle.server_acceptor.specs.Logging.{AllOfUse}
+use Rattle.server_acceptor.specs.Notes.{IsBackFirst, count_back}
 use Rattle.server_acceptor.specs.Placing.{HasNoPlace}
 use Rattle.server_acceptor.specs.Rings.{KeepsRings, count_put}
 use Rattle.server_acceptor.specs.Acceptors.{all_ready, core_of, events_of, failed_of, first_of, lacks_room_of, listeners_of, notes_of, parcels_of, ready_of, retry_limit_of, stopped_of, waiting_of, workers_of}

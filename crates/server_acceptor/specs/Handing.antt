@@ -1,22 +1,37 @@
 -- That the acceptor takes back what the workers hand it.
-use Rattle.std.specs.Prelude.{◌≡◌, ◌<◌, ⊤, ℕ, ◌+◌, ◌∷◌, [], List, length, map, sum_by, All, Any, Contains, Option, Some, None, IfSome, slice_get, slice_index}
+use Rattle.std.specs.Prelude.{◌≡◌, ◌⊎◌, ◌<◌, ⊤, ℕ, ◌+◌, ◌∷◌, [], List, true, cond, nat_eq, length, map, sum_by, count_by, All, Any, Contains, Option, IfSome, slice_get, slice_index}
 use Rattle.std.specs.Option.{option_map_or}
 use Rattle.rtrb.specs.Ring.{known_items, received}
 use Rattle.rtrb.specs.declared.consumer.Consumer.{Consumer}
 use Rattle.service_core.specs.Link.{Identity}
-use Rattle.server_core.specs.Core.{Core}
+use Rattle.server_core.specs.declared.event.Event.{Event}
+use Rattle.server_core.specs.declared.event.Event.TheVariants.{Notice, Back as BackOf}
 use Rattle.server_run.specs.Done.{Adds}
 use Rattle.server_run.specs.declared.entry.Entry.{Entry}
-use Rattle.server_jobs.specs.Cards.{Card, of_entry, of_note}
+use Rattle.server_jobs.specs.Cards.{Card, of_entry}
+use Rattle.server_acceptor.specs.Accepting.{IsNoted, Receives, is_back}
+use Rattle.server_acceptor.specs.Acceptors.{all_ready}
 use Rattle.server_acceptor.specs.Carrying.{came_back}
+use Rattle.server_acceptor.specs.Logging.{Logs}
+use Rattle.server_acceptor.specs.Notes.{count_back}
 use Rattle.server_acceptor.specs.Rings.{ring_out}
 use Rattle.server_acceptor.specs.declared.acceptor.Acceptor.{Acceptor}
 use Rattle.server_jobs.specs.declared.note.Note.{Note}
 use Rattle.server_jobs.specs.declared.note.Note.TheVariants.{Ready, Back, Faulted}
 
--- how many connections the worker w handed back
-abbrev pub count_back : {L A P : Type 0} → (L → Identity) → List (Consumer (Note L) A P) → ℕ → ℕ
-count_back identity consumers w = option_map_or (λ c. sum_by (of_note identity (λ x. 1)) (received c)) (slice_get consumers w) 0
+-- a connection came back from a worker, or a worker is free again
+abbrev pub IsReturn : Event → Type 0
+IsReturn e = ((w : ℕ) × (e ≡ BackOf w)) ⊎ ((w : ℕ) × (e ≡ Notice w))
+
+abbrev pub AllReturn : List Event → Type 0
+AllReturn [] = ⊤
+AllReturn (e ∷ es) = IsReturn e × AllReturn es
+
+-- one connection is out less at w
+pub record Lowers {L : Type 0} (a b : Acceptor L) (w : ℕ) : Type 0 where
+  pub logs : Logs a.core b.core a.events.items b.events.items
+  pub returns : AllReturn logs.more
+  pub backs : (v : ℕ) → count_by (is_back v) logs.more ≡ cond (nat_eq w v) 1 0
 
 -- From a to b just these entries came back from the workers, and were handed on; for each worker what is out fell by what came back from it.
 pub record Hands {L D : Type 0} (identity : L → Identity) (taken : D → Option (List (Entry L))) (count served : D → ℕ) (a b : Acceptor L) (old new : D) : Type 0 where
@@ -40,6 +55,18 @@ pub record Hands {L D : Type 0} (identity : L → Identity) (taken : D → Optio
   pub limit : b.limit ≡ a.limit
   pub retry_limit : b.retry_limit ≡ a.retry_limit
   pub lacks_room : b.lacks_room ≡ a.lacks_room
+  pub first : b.first ≡ a.first
+  pub failures : b.core.failures ≡ a.core.failures
+  -- its events tell what came back
+  pub logs : Logs a.core b.core a.events.items b.events.items
+  pub returns : AllReturn logs.more
+  pub backs : (w : ℕ) → count_back identity b.notes.items w ≡ count_back identity a.notes.items w + count_by (is_back w) logs.more
+  -- a worker that is ready stays so, and told so
+  pub ready : all_ready a ≡ true → all_ready b ≡ true
+  pub marks : IsNoted a → IsNoted b
+  -- nothing comes back where nothing was accepted
+  pub early : a.serial ≡ 0 → entries ≡ []
+  pub receives : (w : ℕ) → Receives a b w
 
 -- the next note of w may be taken: it is no connection, unless one is out
 abbrev pub MayTake : {L : Type 0} → ℕ → List (Note L) → Type 0
@@ -47,12 +74,6 @@ MayTake out [] = ⊥
 MayTake out (Ready ∷ notes) = ⊤
 MayTake out (Back e ∷ notes) = 0 < out
 MayTake out (Faulted ∷ notes) = ⊤
-
-abbrev pub IsBackFirst : {L : Type 0} → List (Note L) → Type 0
-IsBackFirst [] = ⊥
-IsBackFirst (Ready ∷ notes) = ⊥
-IsBackFirst (Back e ∷ notes) = ⊤
-IsBackFirst (Faulted ∷ notes) = ⊥
 
 -- how many notes are known in the ring of a worker
 abbrev pub known_at : {L A P : Type 0} → List (Consumer (Note L) A P) → ℕ → ℕ

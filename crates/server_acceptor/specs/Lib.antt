@@ -6,6 +6,7 @@ pub mod Carrying
 pub mod Handing
 pub mod Listening
 pub mod Logging
+pub mod Notes
 pub mod Placing
 pub mod Rings
 pub mod Stopping

@@ -13,6 +13,7 @@ use server_run::{Done, End, Listener};
 use service_core::Link;
 
 impl<L: Link> Acceptor<L> {
+    #[tactic(auto, using(crate::proofs::StopSteps::stop_proceeds))]
     // Sends a worker the stop that it lacks. False says that its ring has no place.
     fn send_stop<Li: Listener<Link = L>, Do: Done<L>>(&mut self, w: usize) -> bool
         requires number { w < workers_of self.old }
@@ -51,7 +52,12 @@ impl<L: Link> Acceptor<L> {
         ensures yes { result ≡ true → (t : ℕ) → t < length (core_of self.now).ended → slice_index_or (core_of self.now).ended t false ≡ true }
         ensures no { result ≡ false → ((t : ℕ) → t < length (core_of self.now).ended → slice_index_or (core_of self.now).ended t false ≡ true) → ⊥ }
     {
-        (0..self.places.len()).all(|t| !self.core.allows(&Event::ListenerEnded(t)))
+        for t in 0..self.places.len() {
+            if self.core.allows(&Event::ListenerEnded(t)) {
+                return false;
+            }
+        }
+        true
     }
 
     // What the turn comes to.

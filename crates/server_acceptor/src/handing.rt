@@ -1,8 +1,9 @@
 //! How the acceptor takes back what the workers hand it.
-ghost use Rattle.std.specs.Prelude.{◌≡◌, ◌+◌, ◌-◌, ◌*◌, ◌≤◌, ◌<◌, ℕ, length, vec_len, sum, IfSome, slice_get, slice_index, slice_set, true};
+ghost use Rattle.std.specs.Prelude.{◌≡◌, ◌≢◌, ◌+◌, ◌-◌, ◌*◌, ◌≤◌, ◌<◌, ℕ, length, vec_len, sum, IfSome, IsFalse, slice_get, slice_index, slice_set};
 ghost use Rattle.rtrb.specs.Ring.{known_items};
-ghost use Rattle.server_core.specs.Core.{held, in_order};
-ghost use Rattle.server_acceptor.specs.Handing.{known_at, Hands, MayTake};
+ghost use Rattle.server_core.specs.Core.{held};
+ghost use Rattle.server_acceptor.specs.Accepting.{EndsByFault, HasTold};
+ghost use Rattle.server_acceptor.specs.Handing.{known_at, Hands, Lowers, MayTake};
 ghost use Rattle.server_acceptor.specs.Logging.{Logs};
 ghost use Rattle.server_acceptor.specs.Placing.{Stays};
 
@@ -19,10 +20,12 @@ impl<L: Link> Acceptor<L> {
         requires number { w < length self.old.core.out }
         requires out { 0 < slice_index self.old.core.out w }
         requires room { vec_len self.old.events + 2 ≤ 8 * length self.old.core.out + 600 }
-        ensures logs { Logs self.old.core self.new.core self.old.events.items self.new.events.items }
+        ensures lowers { Lowers self.old self.new w }
         ensures room { vec_len self.new.events ≤ vec_len self.old.events + 2 }
+        ensures some { 0 < self.new.serial }
         ensures out { self.new.core.out ≡ slice_set self.old.core.out w (slice_index self.old.core.out w - 1) }
         ensures ended { self.new.core.ended ≡ self.old.core.ended }
+        ensures failures { self.new.core.failures ≡ self.old.core.failures }
         ensures core_waiting { self.new.core.waiting ≡ self.old.core.waiting }
         ensures order { self.new.core.order ≡ self.old.core.order }
         ensures paused { self.new.core.paused ≡ self.old.core.paused }
@@ -32,6 +35,7 @@ impl<L: Link> Acceptor<L> {
         ensures stays { Stays self.old self.new }
     {
         let was_full = self.core.out(w) == self.limit;
+        self.out -= 1;
         log(&mut self.core, &mut self.events, Event::Back(w));
         if was_full {
             log(&mut self.core, &mut self.events, Event::Notice(w));
@@ -49,6 +53,8 @@ impl<L: Link> Acceptor<L> {
         ensures spare { sum self.new.core.out + held self.new.core.waiting ≤ Do.spare done.new }
         ensures hands { Hands L.identity Do.taken Do.count Do.served self.old self.new done.old done.new }
         ensures fewer { known_at self.new.notes.items w < known_at self.old.notes.items w }
+        ensures others { (v : ℕ) → v ≢ w → HasTold self.old v → HasTold self.new v }
+        ensures faulted { IsFalse result → EndsByFault self.old self.new w }
     {
         match self.notes[w].pop_known() {
             Note::Ready => {

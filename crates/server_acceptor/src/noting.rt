@@ -3,8 +3,8 @@ ghost use Rattle.std.specs.Prelude.{◌≡◌, ◌≢◌, ◌⊎◌, ◌+◌, �
 ghost use Rattle.rtrb.specs.Ring.{known_items};
 ghost use Rattle.server_acceptor.specs.Accepting.{EndsByFault, HasTaken, HasTold, IsShort, refused};
 ghost use Rattle.server_acceptor.specs.Acceptors.{events_of, out_of, workers_of};
-ghost use Rattle.server_acceptor.specs.Handing.{Hands, IsBackFirst, MayTake};
-ghost use Rattle.server_acceptor.specs.Logging.{Logs};
+ghost use Rattle.server_acceptor.specs.Handing.{Hands, MayTake};
+ghost use Rattle.server_acceptor.specs.Notes.{IsBackFirst};
 
 use crate::acceptor::Acceptor;
 use server_jobs::Note;
@@ -40,6 +40,7 @@ impl<L: Link> Acceptor<L> {
         ensures core { self.new.core ≡ self.old.core }
         ensures events { self.new.events ≡ self.old.events }
         ensures done { done.new ≡ done.old }
+        ensures others { (v : ℕ) → v ≢ w → HasTold self.old v → HasTold self.new v }
     {
         self.notes[w].slots();
     }
