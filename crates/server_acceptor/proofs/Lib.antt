@@ -4,6 +4,7 @@ pub mod CarrySteps
 pub mod DoesSteps
 pub mod HandSteps
 pub mod LogSteps
+pub mod NewSteps
 pub mod NoteSteps
 pub mod PlaceSteps
 pub mod Rotating
