@@ -1,36 +1,38 @@
 -- What asking a listener once does.
 use Rattle.std.proofs.Common.{◌≡◌, ◌≢◌, ◌^◌, ◌≤◌, ◌<◌, ◌⊎◌, ◌++◌, ◌∷◌, [], ℕ, zero, suc, ◌+◌, ◌*◌, ◌-◌, Bool, true, false, true≢false, cond, List, map, length, Contains, Option, Some, None, IfSome, refl, sym, ◌∙◌, ap, arith, subst, inl, inr, append_assoc, length-append, get_or-set_other}
-use Rattle.std.specs.Prelude.{⊤, count_by, min, nat_eq, slice_get, slice_index, slice_index_or, slice_set}
+use Rattle.std.specs.Prelude.{⊤, count_by, min, nat_eq, slice_get, slice_index, slice_index_or, slice_set, sum, IsSomeAnd}
 use Rattle.std.specs.List.{list_all}
 use Rattle.std.proofs.Math.ListN.{length-set}
 use Rattle.std.proofs.lemmas.Bool.{cases_eq}
 use Rattle.std.proofs.lemmas.Bool.Decides.{nat_tests}
 use Rattle.std.proofs.lemmas.List.{append-nil, append_cancel_left}
 use Rattle.std.proofs.lemmas.List.Sums.{sum_by-append}
-use Rattle.std.specs.Option.{option_map_or}
+use Rattle.std.specs.Option.{option_map, option_map_or}
 use Rattle.rtrb.specs.Ring.{known_items, received}
 use Rattle.service_core.specs.Counts.{Rose}
 use Rattle.service_core.specs.Link.{Identity}
-use Rattle.server_core.specs.Core.{Core, is_open, step}
+use Rattle.server_core.specs.Core.{Core, held, is_open, step}
 use Rattle.server_core.specs.Runs.{AllAllowed, after_all}
 use Rattle.server_core.specs.declared.event.Event.{Event}
 use Rattle.server_core.specs.declared.event.Event.TheVariants.{Command, Notice, Back, Got as GotOf, Sent, RingFull, Faulted, Replaced, Retired, ListenerFailed, ListenerEnded}
 use Rattle.server_run.specs.Delivery.{HasEnded, given_at}
 use Rattle.server_run.specs.declared.entry.Entry.{Entry}
 use Rattle.server_run.proofs.Progress.{adds_none}
+use Rattle.server_jobs.specs.declared.waiting.Waiting.{Waiting}
 use Rattle.server_jobs.specs.declared.note.Note.TheVariants.{Ready as ReadyNote}
-use Rattle.server_acceptor.specs.Accepting.{AsksFrom, Does, HasTaken, HasTold, IsOutside, IsShort, Logged, Proceeds, TellsEnds, is_back, is_failed, is_got, is_sent, received_at, refused, refused_by}
-use Rattle.server_acceptor.specs.Acceptors.{all_ready, core_of, events_of, failed_of, notes_of, ready_of, retry_limit_of, workers_of}
-use Rattle.server_acceptor.specs.AskingListeners.{AsksOnly, IsAsked}
+use Rattle.server_acceptor.specs.Accepting.{AsksFrom, Does, HasSettled, HasTaken, HasTold, IsBackedOff, IsOutside, IsShort, Logged, MayAsk, Proceeds, TellsEnds, is_back, is_failed, is_got, is_sent, received_at, refused, refused_by}
+use Rattle.server_acceptor.specs.Acceptors.{all_ready, core_of, events_of, failed_of, notes_of, out_of, places_of, ready_of, retry_limit_of, workers_of}
+use Rattle.server_acceptor.specs.Asking.{AskDoes, ComesTo, StaysOpen}
+use Rattle.server_acceptor.specs.AskingListeners.{AsksOnly, IsAsked, KeepsWaiting, Leaves, TakesUp}
 use Rattle.server_acceptor.specs.Carrying.{Carries}
-use Rattle.server_acceptor.specs.Handing.{IsBackFirst, count_back}
+use Rattle.server_acceptor.specs.Notes.{IsBackFirst, count_back}
 use Rattle.server_acceptor.specs.Listening.{AsksAt}
 use Rattle.server_acceptor.specs.Logging.{AllOfUse, Logs}
 use Rattle.server_acceptor.specs.Rings.{count_put, ring_in, ring_out}
 use Rattle.server_acceptor.specs.declared.acceptor.Acceptor.{Acceptor}
 use Rattle.server_acceptor.specs.declared.asked.Asked.{Asked}
 use Rattle.server_acceptor.specs.declared.asked.Asked.TheVariants.{Got, NotYet, Skipped, Failed, Ended}
-use Rattle.server_acceptor.proofs.AskSteps.{may_fail, opened_at, opened_below}
+use Rattle.server_acceptor.proofs.AskSteps.{marked_at, opened_at, opened_below}
 
 -- ---- events of one listener alone
 abbrev AreOf : ℕ → List Event → Type 0
@@ -136,14 +138,6 @@ not_inside t v (inl below) same = absurd (omega arith)
 not_inside t v (inr above) same = absurd (omega arith)
 
 -- ---- the acceptor, before and after
--- what asking once does
-pub record AskDoes {Li L D : Type 0} (given : Li → ℕ) (left : Li → Option (List L)) (identity : L → Identity) (ended : Li → Bool) (faults : Li → ℕ)
-    (taken : D → Option (List (Entry L))) (count served : D → ℕ) (before after : List Li) (a b : Acceptor L) (t : ℕ) (d : D) : Type 0 where
-  pub proceeds : Proceeds given left identity ended faults taken count served before after a b d d
-  pub asks : AsksFrom before after a b t (t + 1)
-  pub same_refused : refused (Some []) (events_of b) ≡ refused (Some []) (events_of a)
-  pub told : HasTaken a → HasTaken b
-
 module _ {Li L D : Type 0} (given : Li → ℕ) (left : Li → Option (List L)) (identity : L → Identity) (ended : Li → Bool) (faults : Li → ℕ)
     (taken : D → Option (List (Entry L))) (count served : D → ℕ) (before after : List Li) (a b : Acceptor L) (t : ℕ) (d : D)
     (opened : is_open (core_of a) t ≡ true) (ready : all_ready a ≡ true) (asks_at : AsksAt before after t)
@@ -151,7 +145,7 @@ module _ {Li L D : Type 0} (given : Li → ℕ) (left : Li → Option (List L)) 
     (only : AsksOnly a b) (logs : Logs a.core b.core a.events.items b.events.items)
     (failed_others : (v : ℕ) → v ≢ t → slice_index_or b.failed.items v None ≡ slice_index_or a.failed.items v None)
     (carries : (first : List Li) (entries : List (Entry L)) → Carries given left identity first before a entries → Carries given left identity first after b entries)
-    (fits : (count d < 2 ^ 64) × (served d < 2 ^ 64)) where
+    (fits : (count d < 2 ^ 64) × (served d < 2 ^ 64)) (may : MayAsk a) where
 
   told_on : (w : ℕ) → HasTold a w → HasTold b w
   told_on w told =
@@ -258,7 +252,7 @@ module _ {Li L D : Type 0} (given : Li → ℕ) (left : Li → Option (List L)) 
         ];
       };
       same_refused = ap (refused (Some [])) added ∙ refused_append (Some []) a.events.items es ∙ refused_same (refused (Some []) a.events.items) t es are;
-      told = taken_on;
+      told = taken_on may.told;
     }
       where
         ready_still : all_ready b ≡ true
@@ -305,3 +299,44 @@ module _ {Li L D : Type 0} (given : Li → ℕ) (left : Li → Option (List L)) 
           let same : slice_index b.core.failures t ≡ slice_index a.core.failures t = ap (λ (c : Core). slice_index c.failures t) (core_is (ListenerEnded t ∷ []) (refl, tt) is.0) in
           omega (arith, fewer, same, full)))
         (omega (arith, count_one (is_failed t) (ListenerEnded t) []))
+
+  -- ---- what the answer comes to
+  out_kept : b.waiting ≡ a.waiting → out_of b ≡ out_of a
+  out_kept same = omega (arith, ap (λ xs. sum xs) only.out, ap (λ x. held x) (b.waits ∙ ap (option_map (λ (w : Waiting L). w.token)) same ∙ sym a.waits))
+
+  out_more : (link : L) → TakesUp a b t link → out_of b ≡ out_of a + 1
+  out_more link u = omega (arith, ap (λ xs. sum xs) only.out, ap (λ x. held x) (b.waits ∙ ap (option_map (λ (w : Waiting L). w.token)) u.waiting), ap (λ x. held x) (a.waits ∙ ap (option_map (λ (w : Waiting L). w.token)) u.none))
+
+  may_on : b.waiting ≡ a.waiting → AskDoes given left identity ended faults taken count served before after a b t d → MayAsk b
+  may_on same is = record { none = same ∙ may.none; unrefused = is.same_refused ∙ may.unrefused; told = is.told }
+
+  pub comes_to : (waits skips : Li → ℕ) (now : ℕ) (asked : Asked) → IsAsked given waits skips faults ended before after a b t now asked → Leaves a b t asked
+      → AskDoes given left identity ended faults taken count served before after a b t d → ComesTo given waits skips before after a b t now asked
+  comes_to waits skips now Got is leaves did = (record {
+      opened = ap (λ c. is_open c t) (core_is (GotOf t ∷ []) (refl, tt) is.0) ∙ opened;
+      failures = omega (arith, ap (count_by (is_failed t)) is.0, sum_by-append (λ e. cond (is_failed t e) 1 0) a.events.items (GotOf t ∷ []), count_one (is_failed t) (GotOf t) []);
+    }, is.1, out_more leaves.0 leaves.1)
+  comes_to waits skips now NotYet is leaves did = (inr (inl is.2), out_kept leaves.waiting, may_on leaves.waiting did)
+  comes_to waits skips now Skipped is leaves did = (record {
+      opened = ap (λ c. is_open c t) (core_is [] tt (is.0 ∙ sym (append-nil a.events.items))) ∙ opened;
+      failures = ap (count_by (is_failed t)) is.0;
+    }, inr (is.1, is.2), out_kept leaves.waiting, may_on leaves.waiting did)
+  comes_to waits skips now Failed is leaves did =
+      (inr (inr (subst (λ o. IsSomeAnd o (λ failed. now < failed + 500)) (sym is.0.failed) (omega arith))), out_kept leaves.waiting, may_on leaves.waiting did)
+  comes_to waits skips now Ended is leaves did =
+      (inl (ap (λ (c : Core). slice_index_or c.ended t true) (core_is (ListenerEnded t ∷ []) (refl, tt) is.0) ∙ marked_at a.core.ended t), out_kept leaves.waiting, may_on leaves.waiting did)
+
+  -- no listener gave fewer than it has places
+  pub given_on : (asked : Asked) → Leaves a b t asked → slice_index_or b.places.items t 0 ≤ given_at given after t
+      → ((v : ℕ) → slice_index_or a.places.items v 0 ≤ given_at given before v) → (v : ℕ) → slice_index_or b.places.items v 0 ≤ given_at given after v
+  given_on asked leaves here all v = elim (cases_eq v t) [
+      | inl same ↦ rw same here
+      | inr other ↦ omega (arith, place_other asked leaves v other, ap (λ o. option_map_or given o 0) (asks_at.others v other), all v)
+    ]
+    where
+      place_other : (asked : Asked) → Leaves a b t asked → (v : ℕ) → v ≢ t → slice_index_or b.places.items v 0 ≡ slice_index_or a.places.items v 0
+      place_other Got leaves v other = ap (λ xs. slice_index_or xs v 0) leaves.1.places ∙ get_or-set_other a.places.items t v (slice_index_or a.places.items t 0 + 1) 0 other
+      place_other NotYet leaves v other = ap (λ ps. slice_index_or ps.items v 0) leaves.places
+      place_other Skipped leaves v other = ap (λ ps. slice_index_or ps.items v 0) leaves.places
+      place_other Failed leaves v other = ap (λ ps. slice_index_or ps.items v 0) leaves.places
+      place_other Ended leaves v other = ap (λ ps. slice_index_or ps.items v 0) leaves.places
