@@ -1,3 +1,4 @@
+pub mod AskDoes
 pub mod AskSteps
 pub mod CarrySteps
 pub mod DoesSteps
