@@ -12,3 +12,4 @@ pub mod Rotating
 pub mod StopSteps
 pub mod Taking
 pub mod Trying
+pub mod TurnSteps
