@@ -6,6 +6,7 @@ pub mod HandsDoes
 pub mod LogSteps
 pub mod NoteSteps
 pub mod PlaceSteps
+pub mod PlacedDoes
 pub mod Rotating
 pub mod StopSteps
 pub mod Taking
