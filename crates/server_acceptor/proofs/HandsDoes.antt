@@ -28,7 +28,7 @@ count_returns test back notice (e ∷ events) all =
         | inl is ↦ ap test is.1 ∙ back is.0
         | inr is ↦ ap test is.1 ∙ notice is.0
       ] in
-    omega (arith, sum_by-append (λ x. cond (test x) 1 0) (e ∷ []) events, ap (λ b. cond b 1 0) one, count_returns test back notice events all.1)
+    omega (arith, sum_by-append (λ x. cond (test x) 1 0) (e ∷ []) events, ap {B = ℕ} (λ b. cond b 1 0) one, count_returns test back notice events all.1)
 
 pub none_got : (events : List Event) (t : ℕ) → AllReturn events → count_by (is_got t) events ≡ 0
 none_got events t all = count_returns (is_got t) (λ w. refl) (λ w. refl) events all
