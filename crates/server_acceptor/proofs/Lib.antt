@@ -8,6 +8,7 @@ pub mod LogSteps
 pub mod NewSteps
 pub mod NoteSteps
 pub mod PlaceSteps
+pub mod PlacedDoes
 pub mod Rotating
 pub mod StopSteps
 pub mod Taking
