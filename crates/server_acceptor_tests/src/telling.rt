@@ -1,0 +1,57 @@
+//! What a test shows.
+use crate::act::Act;
+use crate::answer::Answer;
+use crate::plan::Plan;
+use crate::stage::Stage;
+use futures::test::MockTask;
+use std::alloc::{AllocError, AllocGlobal, Global};
+use std::random::RandomSource;
+
+/// What a test takes of the system.
+pub(crate) trait Given: AllocGlobal + RandomSource {}
+
+impl<R: AllocGlobal + RandomSource> Given for R {}
+
+// Does all of it, and compares what happened.
+fn tells_all(
+    task: &MockTask,
+    stage: &mut Stage,
+    acts: &[Act],
+    wanted: &[u8],
+) -> Result<bool, AllocError> {
+    stage.act_all(task, acts);
+    stage.tells(wanted)
+}
+
+// The same of a stage that is made for it.
+fn made_tells(
+    task: &MockTask,
+    alloc: Global,
+    plan: Plan,
+    answers: &[Answer],
+    acts: &[Act],
+    wanted: &[u8],
+) -> Result<bool, AllocError> {
+    match Stage::new(alloc, &plan, answers) {
+        Ok(mut stage) => {
+            let told = tells_all(task, &mut stage, acts, wanted);
+            drop(stage);
+            told
+        }
+        Err(error) => Err(error),
+    }
+}
+
+/// Whether an acceptor by the plan, over listeners that answer so, tells this where all of that is done.
+pub(crate) fn tells<R: Given>(
+    rt: &R,
+    plan: Plan,
+    answers: &[Answer],
+    acts: &[Act],
+    wanted: &[u8],
+) -> Result<bool, AllocError> {
+    match MockTask::new(rt) {
+        Ok(task) => made_tells(&task, rt.alloc(), plan, answers, acts, wanted),
+        Err(_) => Err(AllocError),
+    }
+}
