@@ -82,6 +82,7 @@ fn steps_of(
     Ok(steps)
 }
 
+#[tactic(auto, using(crate::proofs::Links::few_links))]
 // A listener that does so, at most a thousand steps.
 fn listener_of(alloc: Global, steps: Vec<ListenerStep>) -> Result<MemoryListener, AllocError> {
     if steps.len() > 1_000 {

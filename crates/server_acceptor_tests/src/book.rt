@@ -1,4 +1,5 @@
-ghost use Rattle.std.specs.Prelude.{◌≡◌};
+ghost use Rattle.std.specs.Prelude.{◌≡◌, ◌+◌, ◌<◌, [], ◌∷◌};
+ghost use Rattle.server_run.specs.Done.{Adds, counted_small};
 
 use server_run::{Done, Entry, KeepAll, MemoryLink};
 use std::alloc::{AllocError, Global};
@@ -54,9 +55,13 @@ impl Done<MemoryLink> for Book {
         made
     }
 
-    fn take(&mut self, entry: Entry<MemoryLink>) {
+    fn take(&mut self, entry: Entry<MemoryLink>)
+        requires { 0 < ⟦<Book as Done<MemoryLink>>⟧.spare self.old }
+        ensures entry { Adds ⟦<Book as Done<MemoryLink>>⟧.taken ⟦<Book as Done<MemoryLink>>⟧.count ⟦<Book as Done<MemoryLink>>⟧.served self.old self.new (entry ∷ []) }
+        ensures spare { ⟦<Book as Done<MemoryLink>>⟧.spare self.new + 1 ≡ ⟦<Book as Done<MemoryLink>>⟧.spare self.old }
+    {
         self.kept.take(entry);
     }
 
-    ghost small = { λ book. ⟦<KeepAll<MemoryLink> as Done<MemoryLink>>⟧.small book.kept };
+    ghost small = { λ _. (counted_small _, counted_small _) };
 }
