@@ -6,7 +6,9 @@ pub mod HandSteps
 pub mod LogSteps
 pub mod NewSteps
 pub mod NoteSteps
+pub mod OnceSteps
 pub mod PlaceSteps
+pub mod RoomSteps
 pub mod Rotating
 pub mod StopSteps
 pub mod Taking

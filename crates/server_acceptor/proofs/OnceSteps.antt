@@ -1,0 +1,41 @@
+-- That other steps stand before and behind the asking of a listener.
+use Rattle.std.proofs.Common.{◌≡◌, ◌<◌, ◌≤◌, ◌⊎◌, ℕ, ◌+◌, Bool, true, false, List, length, refl, sym, ◌∙◌, ap, ap₂, arith, inl, inr}
+use Rattle.std.specs.Prelude.{◌&&◌, not, count_by, nat_lt, slice_get, slice_index_or}
+use Rattle.server_core.specs.Core.{Core, is_open}
+use Rattle.server_acceptor.specs.Accepting.{AsksFrom, IsOutside, is_failed}
+use Rattle.server_acceptor.specs.Acceptors.{core_of, events_of}
+use Rattle.server_acceptor.specs.Asking.{StaysOpen}
+use Rattle.server_acceptor.specs.declared.acceptor.Acceptor.{Acceptor}
+
+nowhere : (t : ℕ) → IsOutside 0 0 t
+nowhere t = inr (omega arith)
+
+module _ {Li L : Type 0} (l m n : List Li) (a b c : Acceptor L) (from to : ℕ) where
+  -- after it nothing was asked
+  pub asks_then : AsksFrom l m a b from to → AsksFrom m n b c 0 0 → AsksFrom l n a c from to
+  asks_then p q = record {
+    first = q.first ∙ p.first;
+    listeners = λ t out. q.listeners t (nowhere t) ∙ p.listeners t out;
+    failed = λ t out. q.failed t (nowhere t) ∙ p.failed t out;
+    ended = λ t out. q.ended t (nowhere t) ∙ p.ended t out;
+    others = λ t out. q.others t (nowhere t) ∙ p.others t out;
+    once = λ t. omega (arith, q.others t (nowhere t), p.once t);
+  }
+
+  -- nothing was asked before
+  pub asks_after : AsksFrom l m a b 0 0 → AsksFrom m n b c from to → AsksFrom l n a c from to
+  asks_after p q = record {
+    first = q.first ∙ p.first;
+    listeners = λ t out. q.listeners t out ∙ p.listeners t (nowhere t);
+    failed = λ t out. q.failed t out ∙ p.failed t (nowhere t);
+    ended = λ t out. q.ended t out ∙ p.ended t (nowhere t);
+    others = λ t out. q.others t out ∙ p.others t (nowhere t);
+    once = λ t. omega (arith, q.once t, p.others t (nowhere t));
+  }
+
+-- a listener that is open stays so where nothing is asked
+pub open_then : {Li L : Type 0} (l m : List Li) (a b : Acceptor L) (t : ℕ) → AsksFrom l m a b 0 0 → length (core_of b).ended ≡ length (core_of a).ended → is_open (core_of a) t ≡ true → is_open (core_of b) t ≡ true
+open_then l m a b t p as_many opened = ap₂ (λ k e. nat_lt t k && not e) as_many (p.ended t (nowhere t)) ∙ opened
+
+pub failures_then : {Li L : Type 0} (l m : List Li) (a b : Acceptor L) (t : ℕ) → AsksFrom l m a b 0 0 → count_by (is_failed t) (events_of b) ≡ count_by (is_failed t) (events_of a)
+failures_then l m a b t p = p.others t (nowhere t)
