@@ -3,6 +3,7 @@ pub mod AskSteps
 pub mod CarrySteps
 pub mod DoesSteps
 pub mod HandSteps
+pub mod HandsDoes
 pub mod LogSteps
 pub mod NewSteps
 pub mod NoteSteps
@@ -13,3 +14,4 @@ pub mod Rotating
 pub mod StopSteps
 pub mod Taking
 pub mod Trying
+pub mod TurnSteps

@@ -238,7 +238,7 @@ told_up_to identity taken count served a b d e w hands others this before v belo
   ]
 
 -- beyond them is none
-pub told_all : {L : Type 0} (a : Acceptor L) (n : ℕ) → n ≡ length a.notes.items → ((v : ℕ) → v < n → HasTold a v ⊎ IsShort a) → (v : ℕ) → HasTold a v ⊎ IsShort a
+pub told_all : {L : Type 0} (a : Acceptor L) (n : ℕ) → length a.notes.items ≤ n → ((v : ℕ) → v < n → HasTold a v ⊎ IsShort a) → (v : ℕ) → HasTold a v ⊎ IsShort a
 told_all a n is before v = elim (cases_lt v n) [
     | inl below ↦ before v below
     | inr beyond ↦ inl (rw (slice_get_past a.notes.items v (omega (arith, is, beyond))) tt)
