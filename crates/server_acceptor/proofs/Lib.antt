@@ -9,6 +9,7 @@ pub mod NewSteps
 pub mod NoteSteps
 pub mod OnceSteps
 pub mod PlaceSteps
+pub mod PlacedDoes
 pub mod RoomSteps
 pub mod Rotating
 pub mod StopSteps
