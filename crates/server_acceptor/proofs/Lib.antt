@@ -8,6 +8,7 @@ pub mod LogSteps
 pub mod NewSteps
 pub mod NoteSteps
 pub mod OnceSteps
+pub mod OutSteps
 pub mod PlaceSteps
 pub mod PlacedDoes
 pub mod RoomSteps

@@ -42,7 +42,3 @@ pub record AskedSome {Li L : Type 0} (given waits skips : Li → ℕ) (l m : Lis
   pub waited : given_at waits l t ≤ given_at waits m t
   pub small : given_at skips m t < 2 ^ 64
 
--- what an answer leaves
-pub record Counts {Li : Type 0} (waits skips : Li → ℕ) (l m : List Li) (t : ℕ) : Type 0 where
-  pub waited : given_at waits l t ≤ given_at waits m t
-  pub skipped : given_at skips l t ≤ given_at skips m t

@@ -7,6 +7,7 @@ ghost use Rattle.service_core.specs.Counts.{Rose};
 ghost use Rattle.server_acceptor.specs.Accepting.{AsksFrom, AsksInTurn, EndsByFault, GaveOrSkipped, HasHalted, HasSettled, HasTaken, IsAskedOut, IsBackedOff, IsShort, MayAsk, Proceeds, is_failed, refused};
 ghost use Rattle.server_acceptor.specs.Acceptors.{all_ready, core_of, events_of, first_of, listeners_of, out_of, places_of, waiting_of, workers_of};
 ghost use Rattle.server_acceptor.specs.Asking.{AskDoes, ComesTo, MakesRoom};
+ghost use Rattle.server_acceptor.specs.Listening.{NeverFall};
 ghost use Rattle.server_acceptor.specs.declared.step.Step.TheVariants.{On, Settled, Halted, WorkerEnded};
 
 use crate::acceptor::Acceptor;
@@ -56,6 +57,7 @@ impl<L: Link> Acceptor<L> {
         requires events { length (events_of self.old) + 2 ≤ 8 * workers_of self.old + 600 }
         ensures given { (t : ℕ) → slice_index_or (places_of self.new) t 0 ≤ given_at Li.given listeners.new.items t }
         ensures does { (done : Do) → AskDoes Li.given Li.left L.identity Li.ended Li.faults Do.taken Do.count Do.served listeners.old.items listeners.new.items self.old self.new t done }
+        ensures counts { NeverFall Li.waits Li.skips listeners.old.items listeners.new.items t }
         ensures comes { ComesTo Li.given Li.waits Li.skips listeners.old.items listeners.new.items self.old self.new t now result }
     {
         self.ask(t, listeners, now)
@@ -73,6 +75,7 @@ impl<L: Link> Acceptor<L> {
         ensures spare { out_of self.new ≤ Do.spare done.new }
         ensures proceeds { Proceeds Li.given Li.left L.identity Li.ended Li.faults Do.taken Do.count Do.served listeners.old.items listeners.new.items self.old self.new done.old done.new }
         ensures asks { AsksFrom listeners.old.items listeners.new.items self.old self.new t (t + 1) }
+        ensures counts { NeverFall Li.waits Li.skips listeners.old.items listeners.new.items t }
         ensures refusals { is_some (refused (Some []) (events_of self.new)) ≡ true }
         ensures on { result ≡ On → MayAsk self.new × (is_open (core_of self.new) t ≡ true)
             × (count_by (is_failed t) (events_of self.new) ≡ count_by (is_failed t) (events_of self.old)) × GaveOrSkipped Li.given Li.skips listeners.old.items listeners.new.items t }
