@@ -1,9 +1,11 @@
+pub mod AskDoes
 pub mod AskSteps
 pub mod CarrySteps
 pub mod DoesSteps
 pub mod HandSteps
 pub mod HandsDoes
 pub mod LogSteps
+pub mod NewSteps
 pub mod NoteSteps
 pub mod PlaceSteps
 pub mod PlacedDoes
@@ -11,3 +13,4 @@ pub mod Rotating
 pub mod StopSteps
 pub mod Taking
 pub mod Trying
+pub mod TurnSteps

@@ -55,6 +55,11 @@ module _ {L : Type 0} where
   abbrev pub first_of : Acceptor L → ℕ
   first_of a = a.first
 
+  -- how many connections a worker may have
+  abbrev pub limit_of : Acceptor L → ℕ
+  limit_of a = a.limit
+
+  -- how often a listener may fail with no connection between
   abbrev pub retry_limit_of : Acceptor L → ℕ
   retry_limit_of a = a.retry_limit
 

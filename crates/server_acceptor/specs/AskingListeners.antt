@@ -52,3 +52,8 @@ pub record TakesUp {L : Type 0} (a b : Acceptor L) (t : ℕ) (link : L) : Type 0
   pub inside : t < length a.places.items
   pub places : b.places.items ≡ slice_set a.places.items t (slice_index_or a.places.items t 0 + 1)
   pub events : b.events.items ≡ a.events.items ++ GotOf t ∷ []
+
+-- a connection of the listener waits then, or nothing was taken up
+abbrev pub Leaves : {L : Type 0} → Acceptor L → Acceptor L → ℕ → Asked → Type 0
+Leaves a b t Got = (link : _) × TakesUp a b t link
+Leaves a b t _ = KeepsWaiting a b

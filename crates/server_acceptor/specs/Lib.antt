@@ -1,5 +1,6 @@
 pub mod Accepting
 pub mod Acceptors
+pub mod Asking
 pub mod AskingListeners
 pub mod Beginning
 pub mod Carrying

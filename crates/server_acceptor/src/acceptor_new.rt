@@ -25,10 +25,12 @@ impl<L: Drop> Acceptor<L> {
         requires as_many { length notes.items ≡ length parcels.items }
         requires some_listeners { 1 ≤ listeners }
         requires most_listeners { listeners ≤ 64 }
+        requires some_connections { 1 ≤ limit }
+        requires some_failures { 1 ≤ retry_limit }
         requires events { (board.events.items ≡ []) × (vec_capacity board.events ≡ 8 * length parcels.items + 600) }
         requires ready { (board.ready.items ≡ replicate (length parcels.items) false) × (board.stopped.items ≡ replicate (length parcels.items) false) }
         requires places { (board.places.items ≡ replicate listeners 0) × (board.failed.items ≡ replicate listeners None) }
-        ensures { IsNew result parcels.items notes.items listeners retry_limit }
+        ensures { IsNew result parcels.items notes.items listeners limit retry_limit }
     {
         let Board {
             events,
@@ -58,7 +60,9 @@ impl<L: Drop> Acceptor<L> {
         }
     }
 
-    /// An acceptor over the ends of the workers' rings, one of each for each worker. It takes the room for its events.
+    /// An acceptor over the ends of the workers' rings, one of each for each worker, with room for 8 events a worker and 600 more. It
+    /// is refused only for want of memory. A worker gets at most `limit` connections at once, and a listener that fails
+    /// `retry_limit` times with no connection between is given up. The timeout is in seconds.
     pub fn new(
         alloc: Global,
         parcels: Vec<Producer<Parcel<L>>>,
@@ -73,8 +77,9 @@ impl<L: Drop> Acceptor<L> {
         requires as_many { length notes.items ≡ length parcels.items }
         requires some_listeners { 1 ≤ listeners }
         requires most_listeners { listeners ≤ 64 }
+        requires some_connections { 1 ≤ limit }
         requires some_failures { 1 ≤ retry_limit }
-        ensures { IfOk result (λ a. IsNew a parcels.items notes.items listeners retry_limit) }
+        ensures { IfOk result (λ a. IsNew a parcels.items notes.items listeners limit retry_limit) }
     {
         let board = Board::new(alloc, parcels.len(), listeners)?;
         Ok(Acceptor::with_board(

@@ -13,7 +13,6 @@ use server_run::{Done, End, Listener};
 use service_core::Link;
 
 impl<L: Link> Acceptor<L> {
-    #[tactic(auto, using(crate::proofs::StopSteps::stop_proceeds))]
     // Sends a worker the stop that it lacks. False says that its ring has no place.
     fn send_stop<Li: Listener<Link = L>, Do: Done<L>>(&mut self, w: usize) -> bool
         requires number { w < workers_of self.old }
@@ -60,6 +59,7 @@ impl<L: Link> Acceptor<L> {
         true
     }
 
+    #[tactic(auto, using(crate::proofs::DoesSteps::proceeds_none))]
     // What the turn comes to.
     pub(crate) fn come_to<Li: Listener<Link = L>, Do: Done<L>>(&mut self) -> AcceptTurn
         ensures proceeds { (listeners : List Li) (done : Do) → Proceeds Li.given Li.left L.identity Li.ended Li.faults Do.taken Do.count Do.served listeners listeners self.old self.new done done }
@@ -75,7 +75,10 @@ impl<L: Link> Acceptor<L> {
         } else {
             return AcceptTurn::Going;
         };
-        if self.waiting.is_some() || self.out > 0 || self.send_stops::<Li, Do>().is_some() {
+        if self.waiting.is_some() || self.out > 0 {
+            return AcceptTurn::Going;
+        }
+        if self.send_stops::<Li, Do>().is_some() {
             return AcceptTurn::Going;
         }
         AcceptTurn::Finished(end)

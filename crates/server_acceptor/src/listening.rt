@@ -1,10 +1,11 @@
 //! How the acceptor asks a listener.
-ghost use Rattle.std.specs.Prelude.{◌≡◌, ◌+◌, ◌*◌, ◌≤◌, ◌<◌, ◌^◌, ◌++◌, ◌∷◌, [], ℕ, List, true, length, vec_len, slice_index_or};
+ghost use Rattle.std.specs.Prelude.{◌≡◌, ◌≢◌, ◌+◌, ◌*◌, ◌≤◌, ◌<◌, ◌^◌, ◌++◌, ◌∷◌, [], ℕ, List, true, None, length, vec_len, slice_index_or};
 ghost use Rattle.server_core.specs.Core.{is_open, may_take};
 ghost use Rattle.server_core.specs.declared.event.Event.TheVariants.{ListenerEnded};
 ghost use Rattle.server_run.specs.Delivery.{given_at};
 ghost use Rattle.server_run.specs.declared.entry.Entry.{Entry};
-ghost use Rattle.server_acceptor.specs.AskingListeners.{AsksOnly, Fails, IsAsked, KeepsWaiting, TakesUp};
+ghost use Rattle.server_acceptor.specs.Acceptors.{all_ready};
+ghost use Rattle.server_acceptor.specs.AskingListeners.{AsksOnly, Fails, IsAsked, KeepsWaiting, Leaves, TakesUp};
 ghost use Rattle.server_acceptor.specs.Carrying.{Carries};
 ghost use Rattle.server_acceptor.specs.Listening.{AsksAt, Listens};
 ghost use Rattle.server_acceptor.specs.Logging.{Logs};
@@ -20,7 +21,8 @@ use service_core::Link;
 // Asks the listener with that token once.
 fn accept_at<Li: Listener>(listeners: &mut Vec<Li>, t: usize) -> Accepted<Li::Link>
     requires inside { t < length listeners.old.items }
-    ensures { Listens Li.given Li.left Li.waits Li.skips Li.faults Li.ended listeners.old.items listeners.new.items t result }
+    ensures answer { Listens Li.given Li.left Li.waits Li.skips Li.faults Li.ended listeners.old.items listeners.new.items t result }
+    ensures faults { given_at Li.faults listeners.old.items t ≤ given_at Li.faults listeners.new.items t }
 {
     listeners[t].accept()
 }
@@ -30,11 +32,13 @@ impl<L: Link> Acceptor<L> {
     fn take_up(&mut self, t: usize, link: L)
         requires opened { is_open self.old.core t ≡ true }
         requires may { may_take self.old.core ≡ true }
-        requires small { slice_index_or self.old.places.items t 0 < 2 ^ 48 }
+        requires small { slice_index_or self.old.places.items t 0 + 1 < 2 ^ 48 }
+        requires ready { all_ready self.old ≡ true }
         requires room { vec_len self.old.events + 2 ≤ 8 * length self.old.core.out + 600 }
         ensures logs { Logs self.old.core self.new.core self.old.events.items self.new.events.items }
         ensures takes { TakesUp self.old self.new t link }
         ensures asks { AsksOnly self.old self.new }
+        ensures failed { self.new.failed ≡ self.old.failed }
     {
         let place = self.places[t];
         self.waiting = Some(Waiting {
@@ -54,6 +58,7 @@ impl<L: Link> Acceptor<L> {
         requires room { vec_len self.old.events + 2 ≤ 8 * length self.old.core.out + 600 }
         ensures logs { Logs self.old.core self.new.core self.old.events.items self.new.events.items }
         ensures fails { Fails self.old self.new t now }
+        ensures failed { (v : ℕ) → v ≢ t → slice_index_or self.new.failed.items v None ≡ slice_index_or self.old.failed.items v None }
         ensures asks { AsksOnly self.old self.new }
         ensures same { KeepsWaiting self.old self.new }
     {
@@ -70,6 +75,7 @@ impl<L: Link> Acceptor<L> {
         requires room { vec_len self.old.events + 2 ≤ 8 * length self.old.core.out + 600 }
         ensures logs { Logs self.old.core self.new.core self.old.events.items self.new.events.items }
         ensures events { self.new.events.items ≡ self.old.events.items ++ ListenerEnded t ∷ [] }
+        ensures failed { self.new.failed ≡ self.old.failed }
         ensures asks { AsksOnly self.old self.new }
         ensures same { KeepsWaiting self.old self.new }
     {
@@ -83,12 +89,16 @@ impl<L: Link> Acceptor<L> {
         requires as_many { length listeners.old.items ≡ length self.old.core.ended }
         requires opened { is_open self.old.core t ≡ true }
         requires may { may_take self.old.core ≡ true }
+        requires ready { all_ready self.old ≡ true }
         requires given { slice_index_or self.old.places.items t 0 ≤ given_at Li.given listeners.old.items t }
         requires room { vec_len self.old.events + 2 ≤ 8 * length self.old.core.out + 600 }
         ensures listeners { AsksAt listeners.old.items listeners.new.items t }
         ensures given { slice_index_or self.new.places.items t 0 ≤ given_at Li.given listeners.new.items t }
+        ensures faults { given_at Li.faults listeners.old.items t ≤ given_at Li.faults listeners.new.items t }
         ensures logs { Logs self.old.core self.new.core self.old.events.items self.new.events.items }
         ensures asks { AsksOnly self.old self.new }
+        ensures failed { (v : ℕ) → v ≢ t → slice_index_or self.new.failed.items v None ≡ slice_index_or self.old.failed.items v None }
+        ensures leaves { Leaves self.old self.new t result }
         ensures asked { IsAsked Li.given Li.waits Li.skips Li.faults Li.ended listeners.old.items listeners.new.items self.old self.new t now result }
         ensures carries { (first : List Li) (entries : List (Entry L)) → Carries Li.given Li.left L.identity first listeners.old.items self.old entries
             → Carries Li.given Li.left L.identity first listeners.new.items self.new entries }

@@ -23,6 +23,18 @@ impl<L: Link> Acceptor<L> {
         self.ready.iter().all(|ready| *ready)
     }
 
+    #[tactic(auto, using(crate::proofs::TurnSteps::once_each))]
+    // Whether all services stand, and no room for an entry was refused.
+    fn may_accept(&self) -> bool
+        ensures yes { result ≡ true → (all_ready self.now ≡ true) × (lacks_room_of self.now ≡ false) }
+        ensures no { result ≡ false → all_ready self.now ≡ true → lacks_room_of self.now ≡ false → ⊥ }
+    {
+        if self.lacks_room {
+            return false;
+        }
+        self.all_ready()
+    }
+
     // Takes what the workers hand back, gives them the connection that waits, and asks the listeners, once all services stand.
     fn make_turn<Li: Listener<Link = L>, Do: Done<L>>(
         &mut self,
@@ -54,7 +66,7 @@ impl<L: Link> Acceptor<L> {
             Step::On => {}
             step => return step,
         }
-        if self.lacks_room || !self.all_ready() {
+        if !self.may_accept() {
             return Step::Settled;
         }
         self.ask_all(listeners, now, done)
@@ -104,9 +116,9 @@ impl<L: Link> Acceptor<L> {
         let now = clock.now();
         let step = self.make_turn(listeners, now, done);
         self.first = (self.first + 1) % self.places.len();
-        match step {
-            Step::WorkerEnded(w) => AcceptTurn::WorkerEnded(w),
-            Step::On | Step::Settled | Step::Halted => self.come_to::<Li, Do>(),
+        if let Step::WorkerEnded(w) = step {
+            return AcceptTurn::WorkerEnded(w);
         }
+        self.come_to::<Li, Do>()
     }
 }
