@@ -38,9 +38,6 @@ module _ {L : Type 0} where
   pub receives_none : (a : Acceptor L) (w : ℕ) → Receives a a w
   receives_none a w = record { more = []; came = sym (append-nil (received_at a.notes.items w)) }
 
-  pub receives_same : (a b : Acceptor L) (w : ℕ) → b.notes ≡ a.notes → Receives a b w
-  receives_same a b w same = record { more = []; came = ap (λ v. received_at v.items w) same ∙ sym (append-nil (received_at a.notes.items w)) }
-
   pub receives_trans : (a b c : Acceptor L) (w : ℕ) → Receives a b w → Receives b c w → Receives a c w
   receives_trans a b c w p q = record {
     more = p.more ++ q.more;
