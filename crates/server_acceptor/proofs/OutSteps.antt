@@ -189,7 +189,104 @@ module _ {Li L : Type 0} (given waits skips : Li → ℕ) (now : ℕ) (l : List 
       ];
     }
 
+-- the same, of no more listeners than that
+pub asks_within : {Li L : Type 0} (l m : List Li) (a b : Acceptor L) (from t to : ℕ) → (t ≤ to) ⊎ (t ≡ from) → AsksFrom l m a b from t → AsksFrom l m a b from to
+asks_within l m a b from t to within p = record {
+  first = p.first;
+  listeners = λ v out. p.listeners v (outside v within out);
+  failed = λ v out. p.failed v (outside v within out);
+  ended = λ v out. p.ended v (outside v within out);
+  others = λ v out. p.others v (outside v within out);
+  once = p.once;
+}
+  where
+    outside : (v : ℕ) → ((t ≤ to) ⊎ (t ≡ from)) → IsOutside from to v → IsOutside from t v
+    outside v w (inl below) = inl below
+    outside v (inl fits) (inr above) = inr (omega (arith, fits, above))
+    outside v (inr none) (inr above) = elim (cases_lt v from) [
+        | inl below ↦ inl below
+        | inr behind ↦ inr (omega (arith, none, behind))
+      ]
+
 -- ---- all listeners, from the first one on and round
-module _ {Li L : Type 0} (given waits skips : Li → ℕ) (now : ℕ) (l m n : List Li) (a b c : Acceptor L) (first many : ℕ) (within : first ≤ many) where
-  abbrev pub InOrder : List Li → List Li → Acceptor L → ℕ → ℕ → Type 0
-  InOrder x y z from to = (t u : ℕ) → from ≤ t → t < u → u < to → (slice_get y u ≡ slice_get x u) ⊎ IsAskedOut given waits skips x y z now t
+-- a part of the listeners was asked, each in its turn
+pub record AskedPart {Li L : Type 0} (given waits skips : Li → ℕ) (now : ℕ) (l m : List Li) (a b : Acceptor L) (from to : ℕ) : Type 0 where
+  pub asks : AsksFrom l m a b from to
+  pub rests : (v : ℕ) → IsBackedOff a now v → slice_get m v ≡ slice_get l v
+  pub order : (t u : ℕ) → from ≤ t → t < u → u < to → (slice_get m u ≡ slice_get l u) ⊎ IsAskedOut given waits skips l m b now t
+
+turn_early : (first many t : ℕ) → t < first → turn_of first many t ≡ t + many - first
+turn_early first many t below = let e : nat_lt t first ≡ true = grind (arith, nat_tests) in rw e refl
+
+turn_late : (first many t : ℕ) → first ≤ t → turn_of first many t ≡ t - first
+turn_late first many t above = let e : nat_lt t first ≡ false = grind (arith, nat_tests) in rw e refl
+
+-- which of two is asked before the other
+turns : (first many t u : ℕ) → t < many → u < many → turn_of first many t < turn_of first many u → ((first ≤ t) × (t < u)) ⊎ (((first ≤ t) × (u < first)) ⊎ ((t < u) × (u < first)))
+turns first many t u inside within less = elim (cases_lt t first) [
+    | inl early ↦ elim (cases_lt u first) [
+      | inl then_early ↦ inr (inr (omega (arith, less, turn_early first many t early, turn_early first many u then_early), then_early))
+      | inr then_late ↦ absurd (omega (arith, less, turn_early first many t early, turn_late first many u then_late, inside, within))
+    ]
+    | inr late ↦ elim (cases_lt u first) [
+      | inl then_early ↦ inr (inl (late, then_early))
+      | inr then_late ↦ inl (late, omega (arith, less, turn_late first many t late, turn_late first many u then_late))
+    ]
+  ]
+
+module _ {Li L : Type 0} (given waits skips : Li → ℕ) (now : ℕ) (l m : List Li) (a b : Acceptor L) (first many : ℕ) (p : AskedPart given waits skips now l m a b first many) where
+  -- it halted before it came round
+  pub in_turn_halted : first ≡ first_of a → many ≡ listeners_of b → AsksInTurn given waits skips l m a b now
+  in_turn_halted is_first is_many = record {
+    order = λ t u inside within less. by_turns t u (omega (arith, within, is_many)) (turns first many t u (omega (arith, inside, is_many)) (omega (arith, within, is_many))
+        (subst (λ k. turn_of k many t < turn_of k many u) (sym is_first) (subst (λ k. turn_of (first_of a) k t < turn_of (first_of a) k u) (sym is_many) less)));
+    rests = p.rests;
+  }
+    where
+      by_turns : (t u : ℕ) → u < many → ((first ≤ t) × (t < u)) ⊎ (((first ≤ t) × (u < first)) ⊎ ((t < u) × (u < first))) → (slice_get m u ≡ slice_get l u) ⊎ IsAskedOut given waits skips l m b now t
+      by_turns t u within (inl both) = p.order t u both.0 both.1 within
+      by_turns t u within (inr (inl both)) = inl (p.asks.listeners u (inl both.1))
+      by_turns t u within (inr (inr both)) = inl (p.asks.listeners u (inl both.1))
+
+  module _ (n : List Li) (c : Acceptor L) (outs : (t : ℕ) → first ≤ t → t < many → IsAskedOut given waits skips l m b now t) (q : AskedPart given waits skips now m n b c 0 first) where
+    late_out : (t : ℕ) → first ≤ t → IsAskedOut given waits skips l m b now t → IsAskedOut given waits skips l n c now t
+    late_out t late = out_onward given waits skips now l m n b c t (q.asks.listeners t (inr late)) (q.asks.failed t (inr late)) (q.asks.ended t (inr late))
+
+    early_out : (t : ℕ) → t < first → IsAskedOut given waits skips m n c now t → IsAskedOut given waits skips l n c now t
+    early_out t early = out_before given waits skips now l m n c t (p.asks.listeners t (inl early))
+
+    -- it came round
+    pub in_turn_round : first ≡ first_of a → many ≡ listeners_of c → AsksInTurn given waits skips l n a c now
+    in_turn_round is_first is_many = record {
+      order = λ t u inside within less. by_turns t u (omega (arith, inside, is_many)) (omega (arith, within, is_many)) (turns first many t u (omega (arith, inside, is_many)) (omega (arith, within, is_many))
+          (subst (λ k. turn_of k many t < turn_of k many u) (sym is_first) (subst (λ k. turn_of (first_of a) k t < turn_of (first_of a) k u) (sym is_many) less)));
+      rests = λ v backed. elim (cases_lt v first) [
+        | inl early ↦ q.rests v (subst (λ o. IsSomeAnd o (λ at. now < at + 500)) (sym (p.asks.failed v (inl early))) backed) ∙ p.rests v backed
+        | inr late ↦ q.asks.listeners v (inr late) ∙ p.rests v backed
+      ];
+    }
+      where
+        by_late : (t u : ℕ) → first ≤ t → t < u → (slice_get m u ≡ slice_get l u) ⊎ IsAskedOut given waits skips l m b now t → (slice_get n u ≡ slice_get l u) ⊎ IsAskedOut given waits skips l n c now t
+        by_late t u late less (inl same) = inl (q.asks.listeners u (inr (omega (arith, late, less))) ∙ same)
+        by_late t u late less (inr out) = inr (late_out t late out)
+
+        by_early : (t u : ℕ) → t < u → u < first → (slice_get n u ≡ slice_get m u) ⊎ IsAskedOut given waits skips m n c now t → (slice_get n u ≡ slice_get l u) ⊎ IsAskedOut given waits skips l n c now t
+        by_early t u less early (inl same) = inl (same ∙ p.asks.listeners u (inl early))
+        by_early t u less early (inr out) = inr (early_out t (omega (arith, less, early)) out)
+
+        by_turns : (t u : ℕ) → t < many → u < many → ((first ≤ t) × (t < u)) ⊎ (((first ≤ t) × (u < first)) ⊎ ((t < u) × (u < first))) → (slice_get n u ≡ slice_get l u) ⊎ IsAskedOut given waits skips l n c now t
+        by_turns t u inside within (inl both) = by_late t u both.0 both.1 (p.order t u both.0 both.1 within)
+        by_turns t u inside within (inr (inl both)) = inr (late_out t both.0 (outs t both.0 inside))
+        by_turns t u inside within (inr (inr both)) = by_early t u both.0 both.1 (q.order t u (omega arith) both.0 both.1)
+
+    pub round_once : (t : ℕ) → count_by (is_failed t) (events_of c) ≤ count_by (is_failed t) (events_of a) + 1
+    round_once t = elim (cases_lt t first) [
+        | inl early ↦ omega (arith, p.asks.others t (inl early), q.asks.once t)
+        | inr late ↦ omega (arith, q.asks.others t (inr late), p.asks.once t)
+      ]
+
+    pub round_outs : ((t : ℕ) → 0 ≤ t → t < first → IsAskedOut given waits skips m n c now t) → (t : ℕ) → t < many → IsAskedOut given waits skips l n c now t
+    round_outs again t inside = elim (cases_lt t first) [
+        | inl early ↦ early_out t early (again t (omega arith) early)
+        | inr late ↦ late_out t late (outs t late inside)
+      ]

@@ -161,7 +161,7 @@ impl<L: Link> Acceptor<L> {
     {
         for t in from..to {
             match self.ask_out(t, listeners, now, done) {
-                Step::Settled | Step::On => {}
+                Step::Settled => {}
                 step => return step,
             }
         }
@@ -189,7 +189,7 @@ impl<L: Link> Acceptor<L> {
         ensures ended { (w : ℕ) → result ≡ WorkerEnded w → (w < workers_of self.new) × EndsByFault self.old self.new w }
     {
         match self.ask_from(self.first, listeners.len(), listeners, now, done) {
-            Step::Settled | Step::On => self.ask_from(0, self.first, listeners, now, done),
+            Step::Settled => self.ask_from(0, self.first, listeners, now, done),
             step => step,
         }
     }
