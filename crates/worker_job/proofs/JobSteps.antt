@@ -1,9 +1,9 @@
 -- A worker is turned until it leaves, and its job's promise is kept.
-use Rattle.std.proofs.Common.{◌≡◌, ◌⊎◌, ◌++◌, ◌∷◌, [], ℕ, ◌+◌, Bool, true, false, List, All, Err, Result, length, sum_by, refl, sym, ◌∙◌, ap, arith, subst, inl, inr}
+use Rattle.std.proofs.Common.{◌≡◌, ◌⊎◌, ◌++◌, ◌∷◌, [], ℕ, ◌+◌, Bool, true, false, true≢false, List, All, Err, Result, length, sum_by, refl, sym, ◌∙◌, ap, arith, subst, inl, inr}
 use Rattle.std.specs.Prelude.{◌||◌, ◌<◌}
 use Rattle.std.specs.List.{list_any}
 use Rattle.std.proofs.lemmas.List.{append-nil}
-use Rattle.std.proofs.lemmas.List.Sums.{sum_by-append}
+use Rattle.std.proofs.lemmas.List.Sums.{sum_by-append, sum_by_push}
 use Rattle.std.proofs.lemmas.List.Elements.{All-cons, All-nil}
 use Rattle.futures.specs.declared.future.Future.{Ghosts as FutureOf}
 use Rattle.futures.specs.declared.task.Poll.TheVariants.{Ready as PollReady}
@@ -16,24 +16,26 @@ use Rattle.server_jobs.specs.Cards.{Card, of_note, of_parcel, of_waiting}
 use Rattle.server_jobs.specs.Joins.{Accounts as JobAccounts}
 use Rattle.server_jobs.specs.declared.handed.Handed.{Handed}
 use Rattle.server_jobs.specs.declared.note.Note.{Note}
-use Rattle.server_jobs.specs.declared.note.Note.TheVariants.{Faulted}
+use Rattle.server_jobs.specs.declared.note.Note.TheVariants.{Ready, Faulted}
 use Rattle.server_worker.specs.Holding.{Accounts, of_live}
 use Rattle.server_worker.specs.Leaving.{HasStayed, Leaves, Runs}
 use Rattle.server_worker.specs.Room.{IsFresh}
 use Rattle.server_worker.specs.Sound.{IsSound, IsTold, Tells}
 use Rattle.server_worker.specs.Taken.{Receives, is_stop}
+use Rattle.server_worker.specs.Telling.{TellsFault, TellsReady, newly}
 use Rattle.server_worker.specs.Turn.{Works}
 use Rattle.server_worker.specs.Workers.{factory_of, hand_of, held_by, listeners_of, services_of, stopped_of}
 use Rattle.server_worker.specs.declared.connections.Connections.{Connections}
+use Rattle.server_worker.specs.declared.slot.Slot.{Slot}
 use Rattle.server_worker.specs.declared.worker.Worker.{Worker}
 use Rattle.server_worker.specs.declared.worker_parts.WorkerParts.{WorkerParts}
 use Rattle.server_worker.proofs.LeaveSteps.{runs_none, runs_trans}
 use Rattle.worker_job.specs.Jobs as job
 use Rattle.worker_job.specs.Leaving.{GivesUp}
-use Rattle.worker_job.specs.Promise.{HandsOver, IsDeparture}
-use Rattle.worker_job.specs.Working.{CanTurn, Departs, IsMadeOf, Turns}
+use Rattle.worker_job.specs.Promise.{AreSignals, HandsOver, IsDeparture, TellsOfItself}
+use Rattle.worker_job.specs.Working.{Announces, CanTurn, Departs, IsMadeOf, Says, Turns}
 use Rattle.worker_job.specs.declared.departure.Departure.{Departure}
-use Rattle.worker_job.specs.declared.departure.Departure.TheVariants.{Unstarted}
+use Rattle.worker_job.specs.declared.departure.Departure.TheVariants.{Left, Unstarted, Memory}
 use Rattle.worker_job.specs.declared.worker_job.WorkerJob.{WorkerJob}
 
 abbrev RunsBy : {L F Fut : Type 0} → (L → Identity) → (F → ℕ → L → Ended L → Type 0) → (F → ℕ → L → L → Type 0) → (F → ℕ → Type 0) → F → ℕ → Connections L Fut → Connections L Fut → Type 0
@@ -93,6 +95,59 @@ module _ {L F Fac E S I MFut Fut : Type 0} (mg : FutureOf MFut (Result S I)) (sg
       → (token : ℕ) (error : I) → token < listeners_of b → may_init (factory_of b) token error → Departs may_init c (Unstarted token error)
   unstarted_still b c factory listeners token error inside may = (subst (λ n. token < n) (sym listeners) inside, subst (λ f. may_init f token error) (sym factory) may)
 
+newly_trans : (n : ℕ) (a b c : Bool) → (a ≡ true → b ≡ true) → (b ≡ true → c ≡ true) → newly n a c ≡ newly n a b + newly n b c
+newly_trans n true true c p q = refl
+newly_trans n true false c p q = absurd (true≢false (sym (p refl)))
+newly_trans n false false c p q = omega arith
+newly_trans n false true c p q = rw (q refl) (omega arith)
+
+newly_none : (n : ℕ) (a : Bool) → newly n a a ≡ 0
+newly_none n true = refl
+newly_none n false = refl
+
+pub announces_none : {L Fut : Type 0} (a : Connections L Fut) → Announces a a
+announces_none a = record { once = λ f nothing. omega (arith, newly_none (f Ready) a.told); stays = λ was. was }
+
+pub announces_more : {L Fut MFut S : Type 0} (slots : List (Slot MFut S)) (a b c : Connections L Fut) → Announces a b → TellsReady slots b c → Announces a c
+announces_more slots a b c p q = record {
+  once = λ f nothing. omega (arith, p.once f nothing, q.once f nothing, newly_trans (f Ready) a.told b.told c.told p.stays q.stays);
+  stays = λ was. q.stays (p.stays was);
+}
+
+-- one signal weighs as it does
+one : {L : Type 0} (f : Note L → ℕ) (n : Note L) → sum_by f (n ∷ []) ≡ f n
+one f n = omega (arith, sum_by_push f [] n)
+
+module _ {L Fut : Type 0} (a b : Connections L Fut) (untold : a.told ≡ false) where
+  -- nothing was told, or that the services stand
+  pub says_ready : Announces a b → Says a b [] ⊎ Says a b (Ready ∷ [])
+  says_ready announces = go b.told refl
+    where
+      go : (told : Bool) → b.told ≡ told → Says a b [] ⊎ Says a b (Ready ∷ [])
+      go false is = inl (λ f nothing. omega (arith, announces.once f nothing, ap (λ t. newly (f Ready) t b.told) untold, ap (λ t. newly (f Ready) false t) is))
+      go true is = inr (λ f nothing. omega (arith, announces.once f nothing, ap (λ t. newly (f Ready) t b.told) untold, ap (λ t. newly (f Ready) false t) is, one f Ready))
+
+  -- a fault is told where nothing was
+  pub says_fault : (c : Connections L Fut) → Announces a b → TellsFault b c → Says a c (Ready ∷ []) ⊎ Says a c (Faulted ∷ [])
+  says_fault c announces tells = go b.told refl
+    where
+      go : (told : Bool) → b.told ≡ told → Says a c (Ready ∷ []) ⊎ Says a c (Faulted ∷ [])
+      go true is = inl (λ f nothing. omega (arith, announces.once f nothing, tells.once f, ap (λ t. newly (f Ready) t b.told) untold, ap (λ t. newly (f Ready) false t) is, ap (λ t. newly (f Faulted) t c.told) is, one f Ready))
+      go false is = inr (λ f nothing. omega (arith, announces.once f nothing, tells.once f, ap (λ t. newly (f Ready) t b.told) untold, ap (λ t. newly (f Ready) false t) is, ap (λ t. newly (f Faulted) t c.told) is, ap (λ t. newly (f Faulted) false t) tells.told, one f Faulted))
+
+  -- it is the first signal
+  pub says_first_fault : TellsFault a b → Says a b (Faulted ∷ [])
+  says_first_fault tells f nothing = omega (arith, tells.once f, ap (λ t. newly (f Faulted) t b.told) untold, ap (λ t. newly (f Faulted) false t) tells.told, one f Faulted)
+
+-- what follows from each list of signals follows for each departure
+signals_as : {L I : Type 0} (P Q : List (Note L) → Type 0) (departure : Departure I) → ((signals : List (Note L)) → P signals → Q signals) → TellsOfItself P departure → TellsOfItself Q departure
+signals_as P Q Left f (inl p) = inl (f _ p)
+signals_as P Q Left f (inr p) = inr (f _ p)
+signals_as P Q (Unstarted token error) f (inl p) = inl (f _ p)
+signals_as P Q (Unstarted token error) f (inr p) = inr (f _ p)
+signals_as P Q Memory f (inl p) = inl (f _ p)
+signals_as P Q Memory f (inr p) = inr (f _ p)
+
 -- it is stopped where a stop came
 stopped_by : {L Fut : Type 0} (a b : Connections L Fut) (r : Receives a b) → a.stopped ≡ false → b.stopped ≡ list_any is_stop r.more
 stopped_by a b r fresh = r.stopped ∙ ap (λ s. s || list_any is_stop r.more) fresh
@@ -120,8 +175,9 @@ module _ {L F I Fut : Type 0} (identity : L → Identity) (may_serve : F → ℕ
 
   promised : All (IsTold (may_serve (job.factory_of it)) (may_leave (job.factory_of it)) (may_make (job.factory_of it)) (job.listeners_of it) (received b.parcels)) b.owed.items
       → out.factory ≡ job.factory_of it → IsDeparture (job.listeners_of it) (may_init (job.factory_of it)) b.stopped (length out.rest.items) out.departure
+      → TellsOfItself (Says a b) out.departure
       → HandsOver identity may_serve may_leave may_init may_make it out
-  promised owed factory departs = record {
+  promised owed factory departs signals = record {
     accounts = accounts_by;
     same_factory = factory;
     taken = runs.receives.more;
@@ -132,6 +188,10 @@ module _ {L F I Fut : Type 0} (identity : L → Identity) (may_serve : F → ℕ
     true_owed = rw (leaves.parcels, leaves.owed) owed;
     stayed = rw leaves.parcels leaves.stayed;
     departs = subst (λ stopped. IsDeparture (job.listeners_of it) (may_init (job.factory_of it)) stopped (length out.rest.items) out.departure) (stopped_by a b runs.receives fresh.stopped) departs;
+    signals = signals_as (Says a b) (AreSignals runs.tells.more out.owed.items) out.departure (λ they says f nothing.
+        let o = ap (sum_by f) leaves.owed in
+        let e = ap (sum_by f) fresh.owed in
+        omega (arith, says f nothing, o, e, ap (sum_by f) runs.tells.appended, sum_by-append f (sent a.notes) runs.tells.more)) signals;
   }
 
 -- the promise of a job, by the turns of its worker
@@ -139,9 +199,9 @@ pub hands_over : {L F Fac E S I MFut Fut : Type 0} (g : FutureOf Fut (Result (En
     (identity : L → Identity) (may_serve : F → ℕ → L → Ended L → Type 0) (may_leave : F → ℕ → L → L → Type 0) (may_init : F → ℕ → I → Type 0) (may_make : F → ℕ → Type 0)
     (it : WorkerJob L F) (a b : Worker L F Fac E S I MFut Fut) (out : Handed L F (Departure I)) → IsMadeOf a it → IsFresh (hand_of a)
     → Turns g may_stand identity may_serve may_leave may_make a b → Leaves identity (may_leave (factory_of b)) (hand_of b) out → length out.rest.items ≡ held_by b → out.factory ≡ factory_of b
-    → (departure : Departure I) → out.departure ≡ departure → Departs may_init b departure
+    → (departure : Departure I) → out.departure ≡ departure → Departs may_init b departure → TellsOfItself (Says (hand_of a) (hand_of b)) departure
     → HandsOver identity may_serve may_leave may_init may_make it out
-hands_over {F = F} {I = I} g may_stand identity may_serve may_leave may_init may_make it a b out made fresh turns leaves held factory departure is departs =
+hands_over {F = F} {I = I} g may_stand identity may_serve may_leave may_init may_make it a b out made fresh turns leaves held factory departure is departs signals =
     promised identity may_serve may_leave may_init may_make it (hand_of a) (hand_of b) out made.parcels made.notes fresh
     (subst (λ f. RunsBy identity may_serve may_leave may_make f (job.listeners_of it) (hand_of a) (hand_of b)) same
     (subst (λ n. RunsBy identity may_serve may_leave may_make (factory_of b) n (hand_of a) (hand_of b)) many turns.runs))
@@ -153,6 +213,7 @@ hands_over {F = F} {I = I} g may_stand identity may_serve may_leave may_init may
     (subst (λ n. IsDeparture n (may_init (factory_of b)) (stopped_of b) (length out.rest.items) out.departure) many
     (subst (λ k. IsDeparture (listeners_of b) (may_init (factory_of b)) (stopped_of b) k out.departure) (sym held)
     (subst (λ d. IsDeparture (listeners_of b) (may_init (factory_of b)) (stopped_of b) (held_by b) d) (sym is) departs))))
+    (subst (TellsOfItself (Says (hand_of a) (hand_of b))) (sym is) signals)
   where
     same : factory_of b ≡ job.factory_of it
     same = turns.same_factory ∙ made.same_factory
@@ -167,9 +228,9 @@ module _ {L F I : Type 0} (identity : L → Identity) (may_serve : F → ℕ →
   abbrev Told : Note L → Type 0
   Told = IsTold (may_serve (job.factory_of it)) (may_leave (job.factory_of it)) (may_make (job.factory_of it)) (job.listeners_of it) (received out.parcels)
 
-  gives_up_by : (more : List (Note L)) → sent out.notes ≡ sent parts.notes ++ more → ((h : Card → ℕ) → sum_by (of_note identity h) more ≡ 0) → All Told more
+  gives_up_by : (more : List (Note L)) → sent out.notes ≡ sent parts.notes ++ more → (AreSignals more [] [] ⊎ AreSignals more [] (Faulted ∷ [])) → ((h : Card → ℕ) → sum_by (of_note identity h) more ≡ 0) → All Told more
       → HandsOver identity may_serve may_leave may_init may_make it out
-  gives_up_by more is none told = record {
+  gives_up_by more is signals none told = record {
     accounts = record {
       same_inward = rw (sym parcels, gives.parcels) ((refl, refl, refl, refl), refl);
       same_outward = rw (sym notes) gives.notes;
@@ -191,11 +252,12 @@ module _ {L F I : Type 0} (identity : L → Identity) (may_serve : F → ℕ →
     true_owed = rw gives.owed (All-nil Told);
     stayed = rw gives.rest (All-nil (HasStayed identity (may_leave (job.factory_of it)) (received out.parcels)));
     departs = rw (gives.departure, gives.rest) (refl, refl);
+    signals = rw (gives.departure, gives.owed) signals;
   }
 
   pub gives_up : HandsOver identity may_serve may_leave may_init may_make it out
   gives_up = go gives.told
     where
       go : (sent out.notes ≡ sent parts.notes) ⊎ (sent out.notes ≡ sent parts.notes ++ Faulted ∷ []) → HandsOver identity may_serve may_leave may_init may_make it out
-      go (inl same) = gives_up_by [] (same ∙ sym (append-nil _)) (λ h. refl) (All-nil Told)
-      go (inr one) = gives_up_by (Faulted ∷ []) one (λ h. refl) (All-cons Told Faulted [] tt (All-nil Told))
+      go (inl same) = gives_up_by [] (same ∙ sym (append-nil _)) (inl (λ f nothing. refl)) (λ h. refl) (All-nil Told)
+      go (inr more) = gives_up_by (Faulted ∷ []) more (inr (λ f nothing. omega arith)) (λ h. refl) (All-cons Told Faulted [] tt (All-nil Told))

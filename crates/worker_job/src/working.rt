@@ -2,8 +2,8 @@
 ghost use Rattle.std.specs.Prelude.{◌≡◌};
 ghost use Rattle.server_worker.specs.Room.{IsFresh};
 ghost use Rattle.server_worker.specs.Workers.{hand_of, held_by};
-ghost use Rattle.worker_job.specs.Promise.{HandsOver};
-ghost use Rattle.worker_job.specs.Working.{CanTurn, Departs, IsMadeOf, Turns};
+ghost use Rattle.worker_job.specs.Promise.{HandsOver, TellsOfItself};
+ghost use Rattle.worker_job.specs.Working.{CanTurn, Departs, IsMadeOf, Says, Turns};
 ghost use Rattle.worker_job.specs.declared.worker_job.WorkerJob.{WorkerJob};
 
 use crate::departure::Departure;
@@ -41,10 +41,12 @@ where
     Ho: Wait + Clock,
     L: Link,
     F: ServerServiceFactory<L, Factory: ServiceFactory<L, InitError: Drop>>,
-    requires { CanTurn F.Factory.Future.Future F.Factory.Service.Service F.Factory.Service.Future.Future F.Factory.Service.Future.may_stand
+    requires can { CanTurn F.Factory.Future.Future F.Factory.Service.Service F.Factory.Service.Future.Future F.Factory.Service.Future.may_stand
         F.may_serve F.may_leave F.may_ready F.may_init F.may_make worker.old }
+    requires fresh { IsFresh (hand_of worker.old) }
     ensures turns { Turns F.Factory.Service.Future.Future F.Factory.Service.Future.may_stand L.identity F.may_serve F.may_leave F.may_make worker.old worker.new }
     ensures departs { Departs F.may_init worker.new result }
+    ensures signals { TellsOfItself (Says (hand_of worker.old) (hand_of worker.new)) result }
 {
     for _ in host.forever() {
         let before = worker.total();
@@ -85,6 +87,7 @@ where
     requires none_held { held_by worker.old ≡ 0 }
     ensures turns { Turns F.Factory.Service.Future.Future F.Factory.Service.Future.may_stand L.identity F.may_serve F.may_leave F.may_make worker.old worker.new }
     ensures departs { Departs F.may_init worker.new result }
+    ensures signals { TellsOfItself (Says (hand_of worker.old) (hand_of worker.new)) result }
 {
     worker.tell_fault();
     Departure::Memory
@@ -106,6 +109,7 @@ where
     requires none_held { held_by worker.old ≡ 0 }
     ensures turns { Turns F.Factory.Service.Future.Future F.Factory.Service.Future.may_stand L.identity F.may_serve F.may_leave F.may_make worker.old worker.new }
     ensures departs { Departs F.may_init worker.new result }
+    ensures signals { TellsOfItself (Says (hand_of worker.old) (hand_of worker.new)) result }
 {
     let Ok(host) = waiter.host().clone() else {
         return lack_memory(worker);
