@@ -151,6 +151,7 @@ impl<L: Link, F: ServerServiceFactory<L>> Worker<L, F> {
         ensures stays { IsGoing result → stopped_of self.new ≡ true → total_of self.new ≢ 0 }
         ensures unstarted { (token : ℕ) (error : F.Factory.InitError) → result ≡ Unstarted token error
             → (token < listeners_of self.new) × F.may_init (factory_of self.new) token error × (made_of self.new ≡ false) }
+        ensures untold { (token : ℕ) (error : F.Factory.InitError) → result ≡ Unstarted token error → told_of self.new ≡ false }
         ensures faulted { (token : ℕ) (readiness : F.Factory.Error) (error : F.Factory.InitError) → result ≡ Faulted token readiness error → ⊥ }
         ensures kept { Keeps cx.old cx.new }
     {
