@@ -128,12 +128,9 @@ module _ {L Fut : Type 0} (a b : Connections L Fut) (untold : a.told ≡ false) 
       go true is = inr (λ f nothing. omega (arith, announces.once f nothing, ap (λ t. newly (f Ready) t b.told) untold, ap (λ t. newly (f Ready) false t) is, one f Ready))
 
   -- a fault is told where nothing was
-  pub says_fault : (c : Connections L Fut) → Announces a b → TellsFault b c → Says a c (Ready ∷ []) ⊎ Says a c (Faulted ∷ [])
-  says_fault c announces tells = go b.told refl
-    where
-      go : (told : Bool) → b.told ≡ told → Says a c (Ready ∷ []) ⊎ Says a c (Faulted ∷ [])
-      go true is = inl (λ f nothing. omega (arith, announces.once f nothing, tells.once f, ap (λ t. newly (f Ready) t b.told) untold, ap (λ t. newly (f Ready) false t) is, ap (λ t. newly (f Faulted) t c.told) is, one f Ready))
-      go false is = inr (λ f nothing. omega (arith, announces.once f nothing, tells.once f, ap (λ t. newly (f Ready) t b.told) untold, ap (λ t. newly (f Ready) false t) is, ap (λ t. newly (f Faulted) t c.told) is, ap (λ t. newly (f Faulted) false t) tells.told, one f Faulted))
+  pub says_fault : (c : Connections L Fut) → Announces a b → b.told ≡ false → TellsFault b c → Says a c (Faulted ∷ [])
+  says_fault c announces still tells f nothing =
+      omega (arith, announces.once f nothing, tells.once f, ap (λ t. newly (f Ready) t b.told) untold, ap (λ t. newly (f Ready) false t) still, ap (λ t. newly (f Faulted) t c.told) still, ap (λ t. newly (f Faulted) false t) tells.told, one f Faulted)
 
   -- it is the first signal
   pub says_first_fault : TellsFault a b → Says a b (Faulted ∷ [])
@@ -143,8 +140,7 @@ module _ {L Fut : Type 0} (a b : Connections L Fut) (untold : a.told ≡ false) 
 signals_as : {L I : Type 0} (P Q : List (Note L) → Type 0) (departure : Departure I) → ((signals : List (Note L)) → P signals → Q signals) → TellsOfItself P departure → TellsOfItself Q departure
 signals_as P Q Left f (inl p) = inl (f _ p)
 signals_as P Q Left f (inr p) = inr (f _ p)
-signals_as P Q (Unstarted token error) f (inl p) = inl (f _ p)
-signals_as P Q (Unstarted token error) f (inr p) = inr (f _ p)
+signals_as P Q (Unstarted token error) f p = f _ p
 signals_as P Q Memory f (inl p) = inl (f _ p)
 signals_as P Q Memory f (inr p) = inr (f _ p)
 

@@ -36,10 +36,10 @@ IsDeparture listeners may_init stopped left Memory = (stopped ≡ false) × (lef
 abbrev pub AreSignals : {L : Type 0} → List (Note L) → List (Note L) → List (Note L) → Type 0
 AreSignals {L} told owed signals = (f : Note L → ℕ) → WeighsSignals f → sum_by f told + sum_by f owed ≡ sum_by f signals
 
--- What a job tells of itself, by why it left: once that its services stand, or once that it ends by a fault. For want of memory it may tell nothing.
+-- What a job tells of itself, by why it left: that its services stand, if they came to stand before it was stopped; or that it ends by a fault, which want of memory may leave untold.
 abbrev pub TellsOfItself : {L I : Type 0} → (List (Note L) → Type 0) → Departure I → Type 0
 TellsOfItself tells Left = tells [] ⊎ tells (Ready ∷ [])
-TellsOfItself tells (Unstarted token error) = tells (Ready ∷ []) ⊎ tells (Faulted ∷ [])
+TellsOfItself tells (Unstarted token error) = tells (Faulted ∷ [])
 TellsOfItself tells Memory = tells [] ⊎ tells (Faulted ∷ [])
 
 -- What a job hands over: the ends of its rings with an account of them, its factory, true notes, connections that have not ended, and why it left.

@@ -30,4 +30,4 @@ pub returns-in-Left-clause-signals : goal.returns-in-Left-clause-signals
 returns-in-Left-clause-signals g c = says_ready _ _ c.requires.fresh.told (announces_more _ _ _ _ c.loop.invariant.0 c.turn.ensures.ready)
 
 pub returns-in-Unstarted-clause-signals : goal.returns-in-Unstarted-clause-signals
-returns-in-Unstarted-clause-signals g c = says_fault _ _ c.requires.fresh.told _ (announces_more _ _ _ _ c.loop.invariant.0 c.turn.ensures.ready) c.tell_fault.ensures.fault
+returns-in-Unstarted-clause-signals g c = says_fault _ _ c.requires.fresh.told _ (announces_more _ _ _ _ c.loop.invariant.0 c.turn.ensures.ready) (c.in-Unstarted.ensures.untold _ _ refl) c.tell_fault.ensures.fault
