@@ -9,5 +9,5 @@ mod worker_job;
 mod working;
 
 pub use departure::Departure;
-pub use laws::what_is_handed_over_is_accounted_for;
+pub use laws::{a_line_to_a_worker_can_be_joined, what_is_handed_over_is_accounted_for};
 pub use worker_job::WorkerJob;
