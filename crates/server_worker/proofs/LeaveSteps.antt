@@ -1,5 +1,5 @@
 -- What a worker has goes together, and is handed over.
-use Rattle.std.proofs.Common.{◌≡◌, ◌⊎◌, ℕ, ◌+◌, Bool, true, List, [], ◌∷◌, ◌++◌, length, sum_by, All, Contains, Result, refl, sym, ◌∙◌, ap, arith, subst, inl, inr, append_assoc}
+use Rattle.std.proofs.Common.{◌≡◌, ◌⊎◌, ℕ, ◌+◌, true, List, [], ◌∷◌, ◌++◌, length, sum_by, All, Contains, Result, refl, sym, ◌∙◌, ap, arith, subst, inl, inr, append_assoc}
 use Rattle.std.specs.Prelude.{◌||◌}
 use Rattle.std.specs.List.{list_any}
 use Rattle.std.proofs.lemmas.List.{append-nil}

@@ -1,4 +1,4 @@
-use Rattle.std.proofs.Common.{◌≡◌, ◌∙◌, refl, sym, rules}
+use Rattle.std.proofs.Common.{◌∙◌}
 use Rattle.server_worker.proofs.leaving.gather_live.Goals as goal
 
 pub loop-preserved : goal.loop-preserved

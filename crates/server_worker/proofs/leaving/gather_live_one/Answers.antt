@@ -1,4 +1,4 @@
-use Rattle.std.proofs.Common.{◌≡◌, ◌∙◌, refl, sym, rules, All, subst}
+use Rattle.std.proofs.Common.{refl}
 use Rattle.rtrb.specs.Ring.{received}
 use Rattle.server_worker.specs.Sound.{Lives}
 use Rattle.server_worker.proofs.LeaveSteps.{gathers_live, last_of, rest_of}

@@ -6,10 +6,11 @@ pub loop-init : goal.loop-init
 loop-init g c = (announces_none _, turns_none g.F.Factory.Future.Future g.F.Factory.Service.Service g.F.Factory.Service.Future.Future g.F.Factory.Service.Future.LinkHolder.may_stand g.L.Link.identity g.F.ServerServiceFactory.may_serve g.F.ServerServiceFactory.may_leave g.F.ServerServiceFactory.may_ready g.F.ServerServiceFactory.may_init g.F.ServerServiceFactory.may_make _ c.requires.can, c.requires.can)
 
 pub loop-preserved : goal.loop-preserved
-loop-preserved g c =
-    (announces_more _ _ _ _ c.loop.invariant.0 c.turn.ensures.ready,
-    turns_more g.F.Factory.Future.Future g.F.Factory.Service.Service g.F.Factory.Service.Future.Future g.F.Factory.Service.Future.LinkHolder.may_stand g.L.Link.identity g.F.ServerServiceFactory.may_serve g.F.ServerServiceFactory.may_leave g.F.ServerServiceFactory.may_ready g.F.ServerServiceFactory.may_init g.F.ServerServiceFactory.may_make _ _ _ c.loop.invariant.1 c.turn.ensures.factory c.turn.ensures.listeners c.turn.ensures.sound c.turn.ensures.accounts c.turn.ensures.came c.turn.ensures.tells,
-    can_turn g.F.Factory.Future.Future g.F.Factory.Service.Service g.F.Factory.Service.Future.Future g.F.Factory.Service.Future.LinkHolder.may_stand g.L.Link.identity g.F.ServerServiceFactory.may_serve g.F.ServerServiceFactory.may_leave g.F.ServerServiceFactory.may_ready g.F.ServerServiceFactory.may_init g.F.ServerServiceFactory.may_make _ _ c.turn.ensures.factory c.loop.invariant.2.never_errs (c.turn.ensures.works (search rules)))
+loop-preserved g c = (
+  announces_more _ _ _ _ c.loop.invariant.0 c.turn.ensures.ready,
+  turns_more g.F.Factory.Future.Future g.F.Factory.Service.Service g.F.Factory.Service.Future.Future g.F.Factory.Service.Future.LinkHolder.may_stand g.L.Link.identity g.F.ServerServiceFactory.may_serve g.F.ServerServiceFactory.may_leave g.F.ServerServiceFactory.may_ready g.F.ServerServiceFactory.may_init g.F.ServerServiceFactory.may_make _ _ _ c.loop.invariant.1 c.turn.ensures.factory c.turn.ensures.listeners c.turn.ensures.sound c.turn.ensures.accounts c.turn.ensures.came c.turn.ensures.tells,
+  can_turn g.F.Factory.Future.Future g.F.Factory.Service.Service g.F.Factory.Service.Future.Future g.F.Factory.Service.Future.LinkHolder.may_stand g.L.Link.identity g.F.ServerServiceFactory.may_serve g.F.ServerServiceFactory.may_leave g.F.ServerServiceFactory.may_ready g.F.ServerServiceFactory.may_init g.F.ServerServiceFactory.may_make _ _ c.turn.ensures.factory c.loop.invariant.2.never_errs (c.turn.ensures.works (search rules)),
+)
 
 pub returns-in-Left-clause-turns : goal.returns-in-Left-clause-turns
 returns-in-Left-clause-turns g c =

@@ -4,8 +4,10 @@ use Rattle.server_worker.proofs.LeaveSteps.{all_leave, gathered, gathers_unqueue
 use Rattle.server_worker.proofs.worker.Worker.into_handed.Goals as goal
 
 pub gather_live-requires : goal.gather_live-requires
-gather_live-requires g c = record { live = lives_still g.F.Factory.Service.Future.Future g.F.Factory.Service.Future.LinkHolder.may_stand (g.F.ServerServiceFactory.may_serve c.args.self.factory) (g.F.ServerServiceFactory.may_leave c.args.self.factory)
-    c.args.self.hand c.unqueue.new.self c.unqueue.ensures.unqueues.parcels c.unqueue.ensures.unqueues.live c.requires.sound.live }
+gather_live-requires g c = record {
+  live = lives_still g.F.Factory.Service.Future.Future g.F.Factory.Service.Future.LinkHolder.may_stand (g.F.ServerServiceFactory.may_serve c.args.self.factory) (g.F.ServerServiceFactory.may_leave c.args.self.factory)
+      c.args.self.hand c.unqueue.new.self c.unqueue.ensures.unqueues.parcels c.unqueue.ensures.unqueues.live c.requires.sound.live;
+}
 
 pub returns-clause-leaves : goal.returns-clause-leaves
 returns-clause-leaves g c = gathered _ _ c.args.self.hand _ _ (c.gather_live.ensures.gathers _ (gathers_unqueued _ _ c.args.self.hand _ c.unqueue.ensures.unqueues

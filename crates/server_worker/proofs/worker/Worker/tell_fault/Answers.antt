@@ -1,4 +1,4 @@
-use Rattle.std.proofs.Common.{◌≡◌, ◌∙◌, refl, sym, rules, length}
+use Rattle.std.proofs.Common.{length}
 use Rattle.rtrb.specs.Ring.{received}
 use Rattle.server_worker.specs.Sound.{IsTold}
 use Rattle.server_worker.proofs.LeaveSteps.{fault_runs, fault_sound, fault_told, tells_fault}
