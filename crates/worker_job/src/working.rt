@@ -144,6 +144,7 @@ where
     let mut waiter = waiter;
     let mut worker = worker;
     let departure = turn_on(alloc, &mut waiter, &mut worker);
+    let handed = worker.into_handed(departure);
     waiter.ring();
-    worker.into_handed(departure)
+    handed
 }
