@@ -146,11 +146,10 @@ module _ {Li L : Type 0} (given : Li → ℕ) (left : Li → Option (List L)) (i
     (failed_others : (v : ℕ) → v ≢ t → slice_index_or b.failed.items v None ≡ slice_index_or a.failed.items v None)
     (carries : (first : List Li) (entries : List (Entry L)) → Carries given left identity first before a entries → Carries given left identity first after b entries)
     (may : MayAsk a) where
-
   told_on : (w : ℕ) → HasTold a w → HasTold b w
   told_on w told =
       subst (λ out. IfSome (slice_get (notes_of b) w) (λ c. (known_items c ≡ []) ⊎ ((slice_index out w ≡ 0) × IsBackFirst (known_items c)))) (sym only.out)
-        (subst (λ ns. IfSome (slice_get ns.items w) (λ c. (known_items c ≡ []) ⊎ ((slice_index (core_of a).out w ≡ 0) × IsBackFirst (known_items c)))) (sym only.notes) told)
+      (subst (λ ns. IfSome (slice_get ns.items w) (λ c. (known_items c ≡ []) ⊎ ((slice_index (core_of a).out w ≡ 0) × IsBackFirst (known_items c)))) (sym only.notes) told)
 
   short_on : IsShort a → IsShort b
   short_on short = omega (arith, short, ap (λ (xs : List ℕ). length xs) only.out, ap (λ (xs : List Event). length xs) logs.appended, length-append a.events.items logs.more)
@@ -270,17 +269,17 @@ module _ {Li L : Type 0} (given : Li → ℕ) (left : Li → Option (List L)) (i
     nothing events same =
         let added : b.events.items ≡ a.events.items ++ [] = events ∙ sym (append-nil a.events.items) in
         does [] tt added taken count served d fits (omega (arith, same)) (λ some. absurd (omega (arith, some)))
-          (λ over. absurd (true≢false (sym over ∙ ap (λ (c : Core). slice_index_or c.ended t false) (core_is [] tt added) ∙ opened_false a.core t opened)))
-          (omega arith)
+        (λ over. absurd (true≢false (sym over ∙ ap (λ (c : Core). slice_index_or c.ended t false) (core_is [] tt added) ∙ opened_false a.core t opened)))
+        (omega arith)
 
     -- by what was answered
     pub ask_does : (waits skips : Li → ℕ) (now : ℕ) (asked : Asked) → slice_index a.core.failures t < a.retry_limit → IsAsked given waits skips faults ended before after a b t now asked
         → AskDoes given left identity ended faults taken count served before after a b t d
     ask_does waits skips now Got fewer is =
         does (GotOf t ∷ []) (refl, tt) is.0 taken count served d fits (omega (arith, is.1, count_one (is_got t) (GotOf t) [], ap weight (alike t)))
-          (λ some. absurd (omega (arith, some, count_one (is_failed t) (GotOf t) [])))
-          (λ over. absurd (true≢false (sym over ∙ ap (λ (c : Core). slice_index_or c.ended t false) (core_is (GotOf t ∷ []) (refl, tt) is.0) ∙ opened_false a.core t opened)))
-          (omega (arith, count_one (is_failed t) (GotOf t) []))
+        (λ some. absurd (omega (arith, some, count_one (is_failed t) (GotOf t) [])))
+        (λ over. absurd (true≢false (sym over ∙ ap (λ (c : Core). slice_index_or c.ended t false) (core_is (GotOf t ∷ []) (refl, tt) is.0) ∙ opened_false a.core t opened)))
+        (omega (arith, count_one (is_failed t) (GotOf t) []))
     ask_does waits skips now NotYet fewer is = nothing is.0 is.1
     ask_does waits skips now Skipped fewer is = nothing is.0 is.1
     ask_does waits skips now Failed fewer is = by_events is.0.events
@@ -289,21 +288,24 @@ module _ {Li L : Type 0} (given : Li → ℕ) (left : Li → Option (List L)) (i
             → AskDoes given left identity ended faults taken count served before after a b t d
         by_events (inl added) =
             does (ListenerFailed t ∷ []) (refl, tt) added taken count served d fits (omega (arith, is.1, count_one (is_got t) (ListenerFailed t) []))
-              (λ some. is.2)
-              (λ over. absurd (true≢false (sym over ∙ ap (λ (c : Core). slice_index_or c.ended t false) (core_is (ListenerFailed t ∷ []) (refl, tt) added) ∙ opened_false a.core t opened)))
-              (omega (arith, count_one (is_failed t) (ListenerFailed t) [], ap weight (alike t)))
+            (λ some. is.2)
+            (λ over. absurd (true≢false (sym over ∙ ap (λ (c : Core). slice_index_or c.ended t false) (core_is (ListenerFailed t ∷ []) (refl, tt) added) ∙ opened_false a.core t opened)))
+            (omega (arith, count_one (is_failed t) (ListenerFailed t) [], ap weight (alike t)))
         by_events (inr both) =
             does (ListenerFailed t ∷ ListenerEnded t ∷ []) (refl, (refl, tt)) both.0 taken count served d fits (omega (arith, is.1, count_one (is_got t) (ListenerFailed t) (ListenerEnded t ∷ []), count_one (is_got t) (ListenerEnded t) []))
-              (λ some. is.2)
-              (λ over. inr (both.1 ∙ only.retry_limit, is.2))
-              (omega (arith, count_one (is_failed t) (ListenerFailed t) (ListenerEnded t ∷ []), count_one (is_failed t) (ListenerEnded t) [], ap weight (alike t)))
+            (λ some. is.2)
+            (λ over. inr (both.1 ∙ only.retry_limit, is.2))
+            (omega (arith, count_one (is_failed t) (ListenerFailed t) (ListenerEnded t ∷ []), count_one (is_failed t) (ListenerEnded t) [], ap weight (alike t)))
     ask_does waits skips now Ended fewer is =
         does (ListenerEnded t ∷ []) (refl, tt) is.0 taken count served d fits (omega (arith, is.1, count_one (is_got t) (ListenerEnded t) []))
-          (λ some. absurd (omega (arith, some, count_one (is_failed t) (ListenerEnded t) [])))
-          (λ over. inl (is.2, λ full.
-            let same : slice_index b.core.failures t ≡ slice_index a.core.failures t = ap (λ (c : Core). slice_index c.failures t) (core_is (ListenerEnded t ∷ []) (refl, tt) is.0) in
-            omega (arith, fewer, same, full)))
-          (omega (arith, count_one (is_failed t) (ListenerEnded t) []))
+        (λ some. absurd (omega (arith, some, count_one (is_failed t) (ListenerEnded t) [])))
+        (λ over. inl (
+          is.2,
+          λ full.
+              let same : slice_index b.core.failures t ≡ slice_index a.core.failures t = ap (λ (c : Core). slice_index c.failures t) (core_is (ListenerEnded t ∷ []) (refl, tt) is.0) in
+              omega (arith, fewer, same, full),
+        ))
+        (omega (arith, count_one (is_failed t) (ListenerEnded t) []))
 
   -- ---- what the answer comes to
   out_kept : b.waiting ≡ a.waiting → out_of b ≡ out_of a
@@ -317,15 +319,24 @@ module _ {Li L : Type 0} (given : Li → ℕ) (left : Li → Option (List L)) (i
 
   pub comes_to : (waits skips : Li → ℕ) (now : ℕ) (asked : Asked) → IsAsked given waits skips faults ended before after a b t now asked → Leaves a b t asked
       → ComesTo given waits skips before after a b t now asked
-  comes_to waits skips now Got is leaves = (record {
+  comes_to waits skips now Got is leaves = (
+    record {
       opened = ap (λ c. is_open c t) (core_is (GotOf t ∷ []) (refl, tt) is.0) ∙ opened;
       failures = omega (arith, ap (count_by (is_failed t)) is.0, sum_by-append (λ e. cond (is_failed t e) 1 0) a.events.items (GotOf t ∷ []), count_one (is_failed t) (GotOf t) []);
-    }, is.1, out_more leaves.0 leaves.1)
+    },
+    is.1,
+    out_more leaves.0 leaves.1,
+  )
   comes_to waits skips now NotYet is leaves = (inr (inl is.2), out_kept leaves.waiting, may_on leaves.waiting (refused_still [] tt (is.0 ∙ sym (append-nil a.events.items))))
-  comes_to waits skips now Skipped is leaves = (record {
+  comes_to waits skips now Skipped is leaves = (
+    record {
       opened = ap (λ c. is_open c t) (core_is [] tt (is.0 ∙ sym (append-nil a.events.items))) ∙ opened;
       failures = ap (count_by (is_failed t)) is.0;
-    }, inr (is.1, is.2), out_kept leaves.waiting, may_on leaves.waiting (refused_still [] tt (is.0 ∙ sym (append-nil a.events.items))))
+    },
+    inr (is.1, is.2),
+    out_kept leaves.waiting,
+    may_on leaves.waiting (refused_still [] tt (is.0 ∙ sym (append-nil a.events.items))),
+  )
   comes_to waits skips now Failed is leaves =
       (inr (inr (subst (λ o. IsSomeAnd o (λ failed. now < failed + 500)) (sym is.0.failed) (omega arith))), out_kept leaves.waiting, may_on leaves.waiting (by_events is.0.events))
     where
@@ -340,9 +351,9 @@ module _ {Li L : Type 0} (given : Li → ℕ) (left : Li → Option (List L)) (i
 pub given_on : {Li L : Type 0} (given : Li → ℕ) (before after : List Li) (a b : Acceptor L) (t : ℕ) → AsksAt before after t → (asked : Asked) → Leaves a b t asked → slice_index_or b.places.items t 0 ≤ given_at given after t
     → ((v : ℕ) → slice_index_or a.places.items v 0 ≤ given_at given before v) → (v : ℕ) → slice_index_or b.places.items v 0 ≤ given_at given after v
 given_on given before after a b t asks_at asked leaves here all v = elim (cases_eq v t) [
-    | inl same ↦ rw same here
-    | inr other ↦ omega (arith, place_other asked leaves v other, ap (λ o. option_map_or given o 0) (asks_at.others v other), all v)
-  ]
+  | inl same ↦ rw same here
+  | inr other ↦ omega (arith, place_other asked leaves v other, ap (λ o. option_map_or given o 0) (asks_at.others v other), all v)
+]
   where
     place_other : (asked : Asked) → Leaves a b t asked → (v : ℕ) → v ≢ t → slice_index_or b.places.items v 0 ≡ slice_index_or a.places.items v 0
     place_other Got leaves v other = ap (λ xs. slice_index_or xs v 0) leaves.1.places ∙ get_or-set_other a.places.items t v (slice_index_or a.places.items t 0 + 1) 0 other

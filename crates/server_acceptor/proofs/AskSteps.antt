@@ -42,9 +42,9 @@ set_at_most (x ∷ xs) (suc t) n = set_at_most xs t n
 
 pub all_below_set : (xs : List ℕ) (t n most : ℕ) → n < most → ((v : ℕ) → slice_index_or xs v 0 < most) → (v : ℕ) → slice_index_or (slice_set xs t n) v 0 < most
 all_below_set xs t n most below all v = elim (cases_eq v t) [
-    | inl same ↦ rw same (omega (arith, set_at_most xs t n, below))
-    | inr other ↦ omega (arith, get_or-set_other xs t v n 0 other, all v)
-  ]
+  | inl same ↦ rw same (omega (arith, set_at_most xs t n, below))
+  | inr other ↦ omega (arith, get_or-set_other xs t v n 0 other, all v)
+]
 
 -- ---- a listener that is open may still fail
 abbrev pub ArePatient : Core → ℕ → Type 0
@@ -66,17 +66,17 @@ may_fail s limit t patient opened = patient t (opened_at s t opened)
 
 pub patient_got : (s u : Core) (limit t : ℕ) → ArePatient s limit → is_open s t ≡ true → u ≡ step s (Got t) → ArePatient u limit
 patient_got s u limit t patient opened is = subst (λ c. ArePatient c limit) (sym is) (λ v still. elim (cases_eq v t) [
-    | inl same ↦ rw same (omega (arith, set_at_most s.failures t 0, may_fail s limit t patient opened))
-    | inr other ↦ omega (arith, get_or-set_other s.failures t v 0 0 other, patient v still)
-  ])
+  | inl same ↦ rw same (omega (arith, set_at_most s.failures t 0, may_fail s limit t patient opened))
+  | inr other ↦ omega (arith, get_or-set_other s.failures t v 0 0 other, patient v still)
+])
 
 pub patient_failed : (s u : Core) (limit t : ℕ) → ArePatient s limit → is_open s t ≡ true → u ≡ step s (ListenerFailed t) → slice_index u.failures t ≢ limit → ArePatient u limit
 patient_failed s u limit t patient opened is fewer = subst (λ c. ArePatient c limit) (sym is) (λ v still. elim (cases_eq v t) [
-    | inl same ↦ rw same (
-        let unlike : slice_index (slice_set s.failures t (min (slice_index s.failures t + 1) (2 ^ 64 - 1))) t ≢ limit = λ e. fewer (ap (λ (c : Core). slice_index c.failures t) is ∙ e) in
-        omega (arith, set_at_most s.failures t (min (slice_index s.failures t + 1) (2 ^ 64 - 1)), may_fail s limit t patient opened, unlike))
-    | inr other ↦ omega (arith, get_or-set_other s.failures t v (min (slice_index s.failures t + 1) (2 ^ 64 - 1)) 0 other, patient v still)
-  ])
+  | inl same ↦ rw same (
+      let unlike : slice_index (slice_set s.failures t (min (slice_index s.failures t + 1) (2 ^ 64 - 1))) t ≢ limit = λ e. fewer (ap (λ (c : Core). slice_index c.failures t) is ∙ e) in
+      omega (arith, set_at_most s.failures t (min (slice_index s.failures t + 1) (2 ^ 64 - 1)), may_fail s limit t patient opened, unlike))
+  | inr other ↦ omega (arith, get_or-set_other s.failures t v (min (slice_index s.failures t + 1) (2 ^ 64 - 1)) 0 other, patient v still)
+])
 
 pub marked_at : (xs : List Bool) (t : ℕ) → slice_index_or (slice_set xs t true) t true ≡ true
 marked_at [] t = refl
@@ -85,15 +85,15 @@ marked_at (x ∷ xs) (suc t) = marked_at xs t
 
 pub patient_ended : (s u : Core) (limit t : ℕ) → ArePatient s limit → u ≡ step s (ListenerEnded t) → ArePatient u limit
 patient_ended s u limit t patient is = subst (λ c. ArePatient c limit) (sym is) (λ v still. elim (cases_eq v t) [
-    | inl same ↦ absurd (true≢false (sym (marked_at s.ended t) ∙ ap (λ x. slice_index_or (slice_set s.ended t true) x true) (sym same) ∙ still))
-    | inr other ↦ patient v (sym (get_or-set_other s.ended t v true true other) ∙ still)
-  ])
+  | inl same ↦ absurd (true≢false (sym (marked_at s.ended t) ∙ ap (λ x. slice_index_or (slice_set s.ended t true) x true) (sym same) ∙ still))
+  | inr other ↦ patient v (sym (get_or-set_other s.ended t v true true other) ∙ still)
+])
 
 pub patient_given_up : (s u w : Core) (limit t : ℕ) → ArePatient s limit → u ≡ step s (ListenerFailed t) → w ≡ step u (ListenerEnded t) → ArePatient w limit
 patient_given_up s u w limit t patient is then_is = subst (λ c. ArePatient c limit) (sym (then_is ∙ ap (λ c. step c (ListenerEnded t)) is)) (λ v still. elim (cases_eq v t) [
-    | inl same ↦ absurd (true≢false (sym (marked_at s.ended t) ∙ ap (λ x. slice_index_or (slice_set s.ended t true) x true) (sym same) ∙ still))
-    | inr other ↦ omega (arith, get_or-set_other s.failures t v (min (slice_index s.failures t + 1) (2 ^ 64 - 1)) 0 other, patient v (sym (get_or-set_other s.ended t v true true other) ∙ still))
-  ])
+  | inl same ↦ absurd (true≢false (sym (marked_at s.ended t) ∙ ap (λ x. slice_index_or (slice_set s.ended t true) x true) (sym same) ∙ still))
+  | inr other ↦ omega (arith, get_or-set_other s.failures t v (min (slice_index s.failures t + 1) (2 ^ 64 - 1)) 0 other, patient v (sym (get_or-set_other s.ended t v true true other) ∙ still))
+])
 
 -- the rule of the limit stays, where the workers stay as they are
 pub ruled_kept : (s u : Core) (limit : ℕ) → u.order ≡ s.order → u.free ≡ s.free → u.out ≡ s.out → IsRuled s limit → IsRuled u limit

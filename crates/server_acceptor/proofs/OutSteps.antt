@@ -14,9 +14,9 @@ use Rattle.server_acceptor.specs.declared.acceptor.Acceptor.{Acceptor}
 
 outside_other : (t v : ℕ) → v ≢ t → IsOutside t (t + 1) v
 outside_other t v other = elim (cases_lt v t) [
-    | inl below ↦ inl below
-    | inr above ↦ inr (omega (arith, above, other))
-  ]
+  | inl below ↦ inl below
+  | inr above ↦ inr (omega (arith, above, other))
+]
 
 -- ---- one listener
 -- It was asked k times, and may be asked again.
@@ -113,20 +113,23 @@ module _ {Li L : Type 0} (given waits skips : Li → ℕ) (now : ℕ) where
       → slice_index_or (core_of c).ended v true ≡ slice_index_or (core_of b).ended v true → IsAskedOut given waits skips l m b now v → IsAskedOut given waits skips l n c now v
   out_onward l m n b c v same failed ended (inl over) = inl (ended ∙ over)
   out_onward l m n b c v same failed ended (inr (inl rose)) = inr (inl (subst (λ o. Rose (given_at waits l v) (option_map_or waits o 0)) (sym same) rose))
-  out_onward l m n b c v same failed ended (inr (inr (inl asked))) = inr (inr (inl (asked.0,
-      subst (λ o. 256 ≤ (option_map_or given o 0 - given_at given l v) + asked.0) (sym same) asked.1,
-      subst (λ o. RoseBy asked.0 (given_at skips l v) (option_map_or skips o 0)) (sym same) asked.2)))
+  out_onward l m n b c v same failed ended (inr (inr (inl asked))) = inr (inr (inl (
+    asked.0,
+    subst (λ o. 256 ≤ (option_map_or given o 0 - given_at given l v) + asked.0) (sym same) asked.1,
+    subst (λ o. RoseBy asked.0 (given_at skips l v) (option_map_or skips o 0)) (sym same) asked.2,
+  )))
   out_onward l m n b c v same failed ended (inr (inr (inr backed))) = inr (inr (inr (subst (λ o. IsSomeAnd o (λ at. now < at + 500)) (sym failed) backed)))
 
   -- one that was not asked before
   pub out_before : (l m n : List Li) (c : Acceptor L) (v : ℕ) → slice_get m v ≡ slice_get l v → IsAskedOut given waits skips m n c now v → IsAskedOut given waits skips l n c now v
   out_before l m n c v same (inl over) = inl over
   out_before l m n c v same (inr (inl rose)) = inr (inl (subst (λ o. Rose (option_map_or waits o 0) (given_at waits n v)) same rose))
-  out_before l m n c v same (inr (inr (inl asked))) = inr (inr (inl (asked.0,
-      subst (λ o. 256 ≤ (given_at given n v - option_map_or given o 0) + asked.0) same asked.1,
-      subst (λ o. RoseBy asked.0 (option_map_or skips o 0) (given_at skips n v)) same asked.2)))
+  out_before l m n c v same (inr (inr (inl asked))) = inr (inr (inl (
+    asked.0,
+    subst (λ o. 256 ≤ (given_at given n v - option_map_or given o 0) + asked.0) same asked.1,
+    subst (λ o. RoseBy asked.0 (option_map_or skips o 0) (given_at skips n v)) same asked.2,
+  )))
   out_before l m n c v same (inr (inr (inr backed))) = inr (inr (inr backed))
-
 
 -- Those from one token on to another were asked, each in its turn, and each is asked out.
 pub record AskedTo {Li L : Type 0} (given waits skips : Li → ℕ) (now : ℕ) (l m : List Li) (a b : Acceptor L) (from to : ℕ) : Type 0 where
@@ -165,9 +168,9 @@ module _ {Li L : Type 0} (given waits skips : Li → ℕ) (now : ℕ) (l : List 
 
     pub to_rests : (IsBackedOff b now t → n ≡ m) → (v : ℕ) → IsBackedOff a now v → slice_get n v ≡ slice_get l v
     to_rests rests v backed = elim (cases_eq v t) [
-        | inl same ↦ rw same (ap (λ xs. slice_get xs t) (rests (backed_still (subst (λ x. IsBackedOff a now x) same backed))) ∙ p.asks.listeners t (inr (omega arith)))
-        | inr other ↦ q.listeners v (outside_other t v other) ∙ p.rests v backed
-      ]
+      | inl same ↦ rw same (ap (λ xs. slice_get xs t) (rests (backed_still (subst (λ x. IsBackedOff a now x) same backed))) ∙ p.asks.listeners t (inr (omega arith)))
+      | inr other ↦ q.listeners v (outside_other t v other) ∙ p.rests v backed
+    ]
 
     earlier : (v : ℕ) → from ≤ v → v < t → IsAskedOut given waits skips l n c now v
     earlier v above below = out_onward given waits skips now l m n b c v (q.listeners v (inl below)) (q.failed v (inl below)) (q.ended v (inl below)) (p.outs v above below)
@@ -175,9 +178,9 @@ module _ {Li L : Type 0} (given waits skips : Li → ℕ) (now : ℕ) (l : List 
     -- the order, also where it halted at t
     pub to_order : (v u : ℕ) → from ≤ v → v < u → (slice_get n u ≡ slice_get l u) ⊎ IsAskedOut given waits skips l n c now v
     to_order v u above less = elim (cases_lt t u) [
-        | inl behind ↦ inl (q.listeners u (inr (omega (arith, behind))) ∙ p.asks.listeners u (inr (omega (arith, behind))))
-        | inr before ↦ inr (earlier v above (omega (arith, less, before)))
-      ]
+      | inl behind ↦ inl (q.listeners u (inr (omega (arith, behind))) ∙ p.asks.listeners u (inr (omega (arith, behind))))
+      | inr before ↦ inr (earlier v above (omega (arith, less, before)))
+    ]
 
     pub to_more : (IsBackedOff b now t → n ≡ m) → IsAskedOut given waits skips m n c now t → AskedTo given waits skips now l n a c from (t + 1)
     to_more rests out = record {
@@ -204,9 +207,9 @@ asks_within l m a b from t to within p = record {
     outside v w (inl below) = inl below
     outside v (inl fits) (inr above) = inr (omega (arith, fits, above))
     outside v (inr none) (inr above) = elim (cases_lt v from) [
-        | inl below ↦ inl below
-        | inr behind ↦ inr (omega (arith, none, behind))
-      ]
+      | inl below ↦ inl below
+      | inr behind ↦ inr (omega (arith, none, behind))
+    ]
 
 -- ---- all listeners, from the first one on and round
 -- a part of the listeners was asked, each in its turn
@@ -224,15 +227,15 @@ turn_late first many t above = let e : nat_lt t first ≡ false = grind (arith, 
 -- which of two is asked before the other
 turns : (first many t u : ℕ) → t < many → u < many → turn_of first many t < turn_of first many u → ((first ≤ t) × (t < u)) ⊎ (((first ≤ t) × (u < first)) ⊎ ((t < u) × (u < first)))
 turns first many t u inside within less = elim (cases_lt t first) [
-    | inl early ↦ elim (cases_lt u first) [
-      | inl then_early ↦ inr (inr (omega (arith, less, turn_early first many t early, turn_early first many u then_early), then_early))
-      | inr then_late ↦ absurd (omega (arith, less, turn_early first many t early, turn_late first many u then_late, inside, within))
-    ]
-    | inr late ↦ elim (cases_lt u first) [
-      | inl then_early ↦ inr (inl (late, then_early))
-      | inr then_late ↦ inl (late, omega (arith, less, turn_late first many t late, turn_late first many u then_late))
-    ]
+  | inl early ↦ elim (cases_lt u first) [
+    | inl then_early ↦ inr (inr (omega (arith, less, turn_early first many t early, turn_early first many u then_early), then_early))
+    | inr then_late ↦ absurd (omega (arith, less, turn_early first many t early, turn_late first many u then_late, inside, within))
   ]
+  | inr late ↦ elim (cases_lt u first) [
+    | inl then_early ↦ inr (inl (late, then_early))
+    | inr then_late ↦ inl (late, omega (arith, less, turn_late first many t late, turn_late first many u then_late))
+  ]
+]
 
 module _ {Li L : Type 0} (given waits skips : Li → ℕ) (now : ℕ) (l m : List Li) (a b : Acceptor L) (first many : ℕ) (p : AskedPart given waits skips now l m a b first many) where
   -- it halted before it came round
@@ -281,12 +284,12 @@ module _ {Li L : Type 0} (given waits skips : Li → ℕ) (now : ℕ) (l m : Lis
 
     pub round_once : (t : ℕ) → count_by (is_failed t) (events_of c) ≤ count_by (is_failed t) (events_of a) + 1
     round_once t = elim (cases_lt t first) [
-        | inl early ↦ omega (arith, p.asks.others t (inl early), q.asks.once t)
-        | inr late ↦ omega (arith, q.asks.others t (inr late), p.asks.once t)
-      ]
+      | inl early ↦ omega (arith, p.asks.others t (inl early), q.asks.once t)
+      | inr late ↦ omega (arith, q.asks.others t (inr late), p.asks.once t)
+    ]
 
     pub round_outs : ((t : ℕ) → 0 ≤ t → t < first → IsAskedOut given waits skips m n c now t) → (t : ℕ) → t < many → IsAskedOut given waits skips l n c now t
     round_outs again t inside = elim (cases_lt t first) [
-        | inl early ↦ early_out t early (again t (omega arith) early)
-        | inr late ↦ late_out t late (outs t late inside)
-      ]
+      | inl early ↦ early_out t early (again t (omega arith) early)
+      | inr late ↦ late_out t late (outs t late inside)
+    ]

@@ -28,7 +28,7 @@ module _ {Li L : Type 0} (given : Li → ℕ) (left : Li → Option (List L)) (i
   carries_room : (a b : Acceptor L) (entries : List (Entry L)) → MakesRoom a b → Carries given left identity first now a entries → Carries given left identity first now b entries
   carries_room a b entries s c =
       let weigh : (h : Card → ℕ) → put identity h b.parcels.items + in_waiting identity h b.waiting ≡ put identity h a.parcels.items + in_waiting identity h a.waiting =
-          λ h. ap₂ (λ v o. put identity h v.items + in_waiting identity h o) s.parcels s.waiting in
+      λ h. ap₂ (λ v o. put identity h v.items + in_waiting identity h o) s.parcels s.waiting in
       record {
         count = weigh (λ c. 1) ∙ c.count ∙ sym s.serial;
         serials = λ k. weigh (each (has_serial k)) ∙ c.serials k ∙ ap (λ n. once_below n k) (sym s.serial);
@@ -113,7 +113,7 @@ module _ {L : Type 0} (a b : Acceptor L) (s : MakesRoom a b) where
     where
       by_both : (HasTold a w ⊎ IsShort a) → HasTold b w ⊎ IsShort b
       by_both (inl p) = inl (subst (λ core. IfSome (slice_get (notes_of b) w) (λ c. (known_items c ≡ []) ⊎ ((slice_index core.out w ≡ 0) × IsBackFirst (known_items c)))) (sym s.core)
-        (subst (λ ns. IfSome (slice_get ns.items w) (λ c. (known_items c ≡ []) ⊎ ((slice_index (core_of a).out w ≡ 0) × IsBackFirst (known_items c)))) (sym s.notes) p))
+          (subst (λ ns. IfSome (slice_get ns.items w) (λ c. (known_items c ≡ []) ⊎ ((slice_index (core_of a).out w ≡ 0) × IsBackFirst (known_items c)))) (sym s.notes) p))
       by_both (inr p) = inr (omega (arith, p, ap (λ k. length k.out) s.core, ap (λ v. length v.items) s.events))
 
   pub may_still : MayAsk a → MayAsk b

@@ -48,7 +48,12 @@ impl<L: Link> Acceptor<L> {
     }
 
     // Asks a listener once, where nothing waits.
-    fn ask_listener<Li: Listener<Link = L>, Do: Done<L>>(&mut self, t: usize, listeners: &mut Vec<Li>, now: u64) -> Asked
+    fn ask_listener<Li: Listener<Link = L>, Do: Done<L>>(
+        &mut self,
+        t: usize,
+        listeners: &mut Vec<Li>,
+        now: u64,
+    ) -> Asked
         requires as_many { length listeners.old.items ≡ listeners_of self.old }
         requires given { (t : ℕ) → slice_index_or (places_of self.old) t 0 ≤ given_at Li.given listeners.old.items t }
         requires opened { is_open (core_of self.old) t ≡ true }
@@ -64,7 +69,13 @@ impl<L: Link> Acceptor<L> {
     }
 
     // Asks a listener once, and puts what it gives on a ring.
-    fn ask_once<Li: Listener<Link = L>, Do: Done<L>>(&mut self, t: usize, listeners: &mut Vec<Li>, now: u64, done: &mut Do) -> Step
+    fn ask_once<Li: Listener<Link = L>, Do: Done<L>>(
+        &mut self,
+        t: usize,
+        listeners: &mut Vec<Li>,
+        now: u64,
+        done: &mut Do,
+    ) -> Step
         requires as_many { length listeners.old.items ≡ listeners_of self.old }
         requires given { (t : ℕ) → slice_index_or (places_of self.old) t 0 ≤ given_at Li.given listeners.old.items t }
         requires spare { out_of self.old ≤ Do.spare done.old }
@@ -106,7 +117,13 @@ impl<L: Link> Acceptor<L> {
     }
 
     // Asks a listener until it has nothing more, at most 256 times.
-    fn ask_out<Li: Listener<Link = L>, Do: Done<L>>(&mut self, t: usize, listeners: &mut Vec<Li>, now: u64, done: &mut Do) -> Step
+    fn ask_out<Li: Listener<Link = L>, Do: Done<L>>(
+        &mut self,
+        t: usize,
+        listeners: &mut Vec<Li>,
+        now: u64,
+        done: &mut Do,
+    ) -> Step
         requires inside { t < listeners_of self.old }
         requires as_many { length listeners.old.items ≡ listeners_of self.old }
         requires given { (t : ℕ) → slice_index_or (places_of self.old) t 0 ≤ given_at Li.given listeners.old.items t }
@@ -138,7 +155,14 @@ impl<L: Link> Acceptor<L> {
     }
 
     // Asks the listeners from one token on to another, each in its turn.
-    fn ask_from<Li: Listener<Link = L>, Do: Done<L>>(&mut self, from: usize, to: usize, listeners: &mut Vec<Li>, now: u64, done: &mut Do) -> Step
+    fn ask_from<Li: Listener<Link = L>, Do: Done<L>>(
+        &mut self,
+        from: usize,
+        to: usize,
+        listeners: &mut Vec<Li>,
+        now: u64,
+        done: &mut Do,
+    ) -> Step
         requires inside { to ≤ listeners_of self.old }
         requires as_many { length listeners.old.items ≡ listeners_of self.old }
         requires given { (t : ℕ) → slice_index_or (places_of self.old) t 0 ≤ given_at Li.given listeners.old.items t }
@@ -169,7 +193,12 @@ impl<L: Link> Acceptor<L> {
     }
 
     // Asks all listeners, each in its turn, from the first one on and round.
-    pub(crate) fn ask_all<Li: Listener<Link = L>, Do: Done<L>>(&mut self, listeners: &mut Vec<Li>, now: u64, done: &mut Do) -> Step
+    pub(crate) fn ask_all<Li: Listener<Link = L>, Do: Done<L>>(
+        &mut self,
+        listeners: &mut Vec<Li>,
+        now: u64,
+        done: &mut Do,
+    ) -> Step
         requires as_many { length listeners.old.items ≡ listeners_of self.old }
         requires given { (t : ℕ) → slice_index_or (places_of self.old) t 0 ≤ given_at Li.given listeners.old.items t }
         requires spare { out_of self.old ≤ Do.spare done.old }

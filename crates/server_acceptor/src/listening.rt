@@ -13,8 +13,8 @@ ghost use Rattle.server_acceptor.specs.Logging.{Logs};
 use crate::acceptor::Acceptor;
 use crate::asked::Asked;
 use crate::logging::log;
-use server_jobs::Waiting;
 use server_core::Event;
+use server_jobs::Waiting;
 use server_run::{Accepted, Listener};
 use service_core::Link;
 

@@ -47,9 +47,11 @@ returns-in_default-clause-order g c t u above less below = to_order g.Li.Listene
 
 pub returns-in_default-clause-ended : goal.returns-in_default-clause-ended
 returns-in_default-clause-ended g c w is =
-    let ends = c.ask_out.ensures.ended w is in
-    (ends.0, fault_after g.Li.Listener.given g.Li.Listener.left g.L.Link.identity g.Li.Listener.ended g.Li.Listener.faults g.Do.Done.taken g.Do.Done.count g.Do.Done.served
-        c.args.listeners.now.items c.loop-t.listeners.items c.ask_out.new.listeners.items c.args.self.now c.loop-t.self c.ask_out.new.self c.args.done.now c.loop-t.done c.ask_out.new.done w c.loop-t.invariant.proceeds ends.1)
+    let ends = c.ask_out.ensures.ended w is in (
+      ends.0,
+      fault_after g.Li.Listener.given g.Li.Listener.left g.L.Link.identity g.Li.Listener.ended g.Li.Listener.faults g.Do.Done.taken g.Do.Done.count g.Do.Done.served
+          c.args.listeners.now.items c.loop-t.listeners.items c.ask_out.new.listeners.items c.args.self.now c.loop-t.self c.ask_out.new.self c.args.done.now c.loop-t.done c.ask_out.new.done w c.loop-t.invariant.proceeds ends.1,
+    )
 
 pub returns-clause-asks : goal.returns-clause-asks
 returns-clause-asks g c = asks_within c.args.listeners.now.items c.loop-t.listeners.items c.args.self.now c.loop-t.self c.args.from c.loop-t.t c.args.to c.loop-t.invariant.below c.loop-t.invariant.asked.asks

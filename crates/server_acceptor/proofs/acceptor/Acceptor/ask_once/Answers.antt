@@ -29,20 +29,23 @@ returns-in-Got-clause-asks g c = once_asked g.Li.Listener.given g.Li.Listener.le
 pub returns-in-Got-clause-on : goal.returns-in-Got-clause-on
 returns-in-Got-clause-on g c is =
     let listeners = c.ask_listener.new.listeners.items in
-    let none = c.place_one.ensures.none_asked listeners in
-    (c.place_one.ensures.on is,
-     open_then listeners listeners c.ask_listener.new.self c.place_one.new.self c.args.t none (c.place_one.ensures.proceeds listeners).does.listeners c.in-Got.ensures.comes.0.opened,
-     failures_then listeners listeners c.ask_listener.new.self c.place_one.new.self c.args.t none ∙ c.in-Got.ensures.comes.0.failures ∙ ap (λ v. count_by (is_failed c.args.t) v.items) c.has_room.ensures.makes.events,
-     inl c.in-Got.ensures.comes.1)
+    let none = c.place_one.ensures.none_asked listeners in (
+      c.place_one.ensures.on is,
+      open_then listeners listeners c.ask_listener.new.self c.place_one.new.self c.args.t none (c.place_one.ensures.proceeds listeners).does.listeners c.in-Got.ensures.comes.0.opened,
+      failures_then listeners listeners c.ask_listener.new.self c.place_one.new.self c.args.t none ∙ c.in-Got.ensures.comes.0.failures ∙ ap (λ v. count_by (is_failed c.args.t) v.items) c.has_room.ensures.makes.events,
+      inl c.in-Got.ensures.comes.1,
+    )
 
 pub returns-in-Got-clause-ended : goal.returns-in-Got-clause-ended
 returns-in-Got-clause-ended g c w is =
-    let ends = c.place_one.ensures.ended w is in
-    (ends.0, fault_after g.Li.Listener.given g.Li.Listener.left g.L.Link.identity g.Li.Listener.ended g.Li.Listener.faults g.Do.Done.taken g.Do.Done.count g.Do.Done.served
-        c.args.listeners.now.items c.ask_listener.new.listeners.items c.ask_listener.new.listeners.items c.args.self.now c.ask_listener.new.self c.place_one.new.self
-        c.args.done.now c.has_room.new.done c.place_one.new.done w
-        (once_proceeds g.Li.Listener.given g.Li.Listener.left g.L.Link.identity g.Li.Listener.ended g.Li.Listener.faults g.Do.Done.taken g.Do.Done.count g.Do.Done.served
-            c.args.listeners.now.items c.ask_listener.new.listeners.items c.args.self.now c.has_room.new.self c.ask_listener.new.self c.args.done.now c.has_room.new.done c.args.t (g.met.Do.Done.small c.args.done.now) c.has_room.ensures.makes c.has_room.ensures.keeps (c.ask_listener.ensures.does c.has_room.new.done)) ends.1)
+    let ends = c.place_one.ensures.ended w is in (
+      ends.0,
+      fault_after g.Li.Listener.given g.Li.Listener.left g.L.Link.identity g.Li.Listener.ended g.Li.Listener.faults g.Do.Done.taken g.Do.Done.count g.Do.Done.served
+          c.args.listeners.now.items c.ask_listener.new.listeners.items c.ask_listener.new.listeners.items c.args.self.now c.ask_listener.new.self c.place_one.new.self
+          c.args.done.now c.has_room.new.done c.place_one.new.done w
+          (once_proceeds g.Li.Listener.given g.Li.Listener.left g.L.Link.identity g.Li.Listener.ended g.Li.Listener.faults g.Do.Done.taken g.Do.Done.count g.Do.Done.served
+          c.args.listeners.now.items c.ask_listener.new.listeners.items c.args.self.now c.has_room.new.self c.ask_listener.new.self c.args.done.now c.has_room.new.done c.args.t (g.met.Do.Done.small c.args.done.now) c.has_room.ensures.makes c.has_room.ensures.keeps (c.ask_listener.ensures.does c.has_room.new.done)) ends.1,
+    )
 
 pub returns-in-Skipped-clause-proceeds : goal.returns-in-Skipped-clause-proceeds
 returns-in-Skipped-clause-proceeds g c = once_proceeds g.Li.Listener.given g.Li.Listener.left g.L.Link.identity g.Li.Listener.ended g.Li.Listener.faults g.Do.Done.taken g.Do.Done.count g.Do.Done.served

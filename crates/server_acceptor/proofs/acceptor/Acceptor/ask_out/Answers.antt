@@ -40,6 +40,8 @@ returns-in_default-clause-settled g c is =
 
 pub returns-in_default-clause-ended : goal.returns-in_default-clause-ended
 returns-in_default-clause-ended g c w is =
-    let ends = c.ask_once.ensures.ended w is in
-    (ends.0, fault_after g.Li.Listener.given g.Li.Listener.left g.L.Link.identity g.Li.Listener.ended g.Li.Listener.faults g.Do.Done.taken g.Do.Done.count g.Do.Done.served
-        c.args.listeners.now.items c.loop-k.listeners.items c.ask_once.new.listeners.items c.args.self.now c.loop-k.self c.ask_once.new.self c.args.done.now c.loop-k.done c.ask_once.new.done w c.loop-k.invariant.proceeds ends.1)
+    let ends = c.ask_once.ensures.ended w is in (
+      ends.0,
+      fault_after g.Li.Listener.given g.Li.Listener.left g.L.Link.identity g.Li.Listener.ended g.Li.Listener.faults g.Do.Done.taken g.Do.Done.count g.Do.Done.served
+          c.args.listeners.now.items c.loop-k.listeners.items c.ask_once.new.listeners.items c.args.self.now c.loop-k.self c.ask_once.new.self c.args.done.now c.loop-k.done c.ask_once.new.done w c.loop-k.invariant.proceeds ends.1,
+    )
