@@ -1,6 +1,6 @@
 -- What asking a listener once does.
-use Rattle.std.proofs.Common.{◌≡◌, ◌≢◌, ◌^◌, ◌≤◌, ◌<◌, ◌⊎◌, ◌++◌, ◌∷◌, [], ℕ, zero, suc, ◌+◌, ◌*◌, ◌-◌, Bool, true, false, true≢false, cond, List, map, length, Contains, Option, Some, None, IfSome, refl, sym, ◌∙◌, ap, arith, subst, inl, inr, append_assoc, length-append, get_or-set_other}
-use Rattle.std.specs.Prelude.{⊤, count_by, min, nat_eq, slice_get, slice_index, slice_index_or, slice_set, sum, IsSomeAnd}
+use Rattle.std.proofs.Common.{◌≡◌, ◌≢◌, ◌^◌, ◌≤◌, ◌<◌, ◌⊎◌, ◌++◌, ◌∷◌, [], ℕ, zero, suc, ◌+◌, ◌-◌, Bool, true, false, true≢false, cond, List, map, length, Contains, Option, Some, None, IfSome, refl, sym, ◌∙◌, ap, arith, subst, inl, inr, length-append, get_or-set_other}
+use Rattle.std.specs.Prelude.{⊤, count_by, min, nat_eq, slice_get, slice_index, slice_index_or, sum, IsSomeAnd}
 use Rattle.std.specs.List.{list_all}
 use Rattle.std.proofs.Math.ListN.{length-set}
 use Rattle.std.proofs.lemmas.Bool.{cases_eq}
@@ -20,10 +20,10 @@ use Rattle.server_run.specs.declared.entry.Entry.{Entry}
 use Rattle.server_run.proofs.Progress.{adds_none}
 use Rattle.server_jobs.specs.declared.waiting.Waiting.{Waiting}
 use Rattle.server_jobs.specs.declared.note.Note.TheVariants.{Ready as ReadyNote}
-use Rattle.server_acceptor.specs.Accepting.{AsksFrom, Does, HasSettled, HasTaken, HasTold, IsBackedOff, IsOutside, IsShort, Logged, MayAsk, Proceeds, TellsEnds, is_back, is_failed, is_got, is_sent, received_at, refused, refused_by}
-use Rattle.server_acceptor.specs.Acceptors.{all_ready, core_of, events_of, failed_of, notes_of, out_of, places_of, ready_of, retry_limit_of, workers_of}
-use Rattle.server_acceptor.specs.Asking.{AskDoes, ComesTo, StaysOpen}
-use Rattle.server_acceptor.specs.AskingListeners.{AsksOnly, IsAsked, KeepsWaiting, Leaves, TakesUp}
+use Rattle.server_acceptor.specs.Accepting.{HasTaken, HasTold, IsOutside, IsShort, MayAsk, is_back, is_failed, is_got, is_sent, received_at, refused, refused_by}
+use Rattle.server_acceptor.specs.Acceptors.{all_ready, core_of, events_of, notes_of, out_of, ready_of}
+use Rattle.server_acceptor.specs.Asking.{AskDoes, ComesTo}
+use Rattle.server_acceptor.specs.AskingListeners.{AsksOnly, IsAsked, Leaves, TakesUp}
 use Rattle.server_acceptor.specs.Carrying.{Carries}
 use Rattle.server_acceptor.specs.Notes.{IsBackFirst, count_back}
 use Rattle.server_acceptor.specs.Listening.{AsksAt}

@@ -1,7 +1,7 @@
 -- That other steps stand before and behind the asking of a listener.
-use Rattle.std.proofs.Common.{◌≡◌, ◌^◌, ◌<◌, ◌≤◌, ◌⊎◌, ℕ, ◌+◌, Bool, true, false, List, Option, length, refl, sym, ◌∙◌, ap, ap₂, arith, inl, inr}
-use Rattle.std.specs.Prelude.{◌&&◌, not, count_by, nat_lt, slice_get, slice_index_or}
-use Rattle.server_core.specs.Core.{Core, is_open}
+use Rattle.std.proofs.Common.{◌≡◌, ◌^◌, ◌<◌, ℕ, ◌+◌, Bool, true, List, Option, length, ◌∙◌, ap₂, arith, inr}
+use Rattle.std.specs.Prelude.{◌&&◌, not, count_by, nat_lt}
+use Rattle.server_core.specs.Core.{is_open}
 use Rattle.service_core.specs.Link.{Identity}
 use Rattle.server_run.specs.Done.{Keeps}
 use Rattle.server_run.specs.declared.entry.Entry.{Entry}

@@ -1,11 +1,11 @@
 -- What the asking of listeners comes to, one after the other.
-use Rattle.std.proofs.Common.{◌≡◌, ◌≢◌, ◌^◌, ◌<◌, ◌≤◌, ◌⊎◌, [], ℕ, zero, suc, ◌+◌, ◌-◌, Bool, true, false, cond, List, length, Option, Some, None, IfSome, refl, sym, ◌∙◌, ap, ap₂, arith, subst, inl, inr}
-use Rattle.std.specs.Prelude.{◌&&◌, not, count_by, min, nat_lt, slice_get, slice_index_or, IsSomeAnd}
+use Rattle.std.proofs.Common.{◌≡◌, ◌≢◌, ◌<◌, ◌≤◌, ◌⊎◌, ℕ, ◌+◌, ◌-◌, true, false, List, None, refl, sym, ◌∙◌, ap, arith, subst, inl, inr}
+use Rattle.std.specs.Prelude.{count_by, nat_lt, slice_get, slice_index_or, IsSomeAnd}
 use Rattle.std.specs.Option.{option_map_or}
 use Rattle.std.proofs.lemmas.Bool.{cases_eq, cases_lt}
 use Rattle.std.proofs.lemmas.Bool.Decides.{nat_tests}
 use Rattle.service_core.specs.Counts.{Rose}
-use Rattle.server_core.specs.Core.{Core, is_open}
+use Rattle.server_core.specs.Core.{is_open}
 use Rattle.server_run.specs.Delivery.{given_at, rise}
 use Rattle.server_acceptor.specs.Accepting.{AsksFrom, AsksInTurn, GaveOrSkipped, HasSettled, IsAskedOut, IsBackedOff, IsOutside, MayAsk, RoseBy, is_failed, turn_of}
 use Rattle.server_acceptor.specs.Acceptors.{core_of, events_of, failed_of, first_of, listeners_of}
@@ -94,17 +94,6 @@ module _ {Li L : Type 0} (given waits skips : Li → ℕ) (l : List Li) (a : Acc
   -- it was asked as often as it may be
   pub asked_enough : (m : List Li) (b : Acceptor L) (now : ℕ) → AskedSome given waits skips l m a b t 256 → IsAskedOut given waits skips l m b now t
   asked_enough m b now p = inr (inr (inl (p.skipped, p.enough, p.rose)))
-
--- a listener that is not open has ended
-pub is_over : (s : Core) (t : ℕ) → t < length s.ended → is_open s t ≡ false → slice_index_or s.ended t true ≡ true
-is_over s t inside closed =
-    let e : nat_lt t (length s.ended) ≡ true = grind (arith, nat_tests) in
-    by_both (nat_lt t (length s.ended)) (slice_index_or s.ended t true) e closed
-  where
-    by_both : (p q : Bool) → p ≡ true → (p && not q) ≡ false → q ≡ true
-    by_both p true is closed = refl
-    by_both true false is closed = sym closed
-    by_both false false is closed = is
 
 -- ---- one listener after the other
 module _ {Li L : Type 0} (given waits skips : Li → ℕ) (now : ℕ) where

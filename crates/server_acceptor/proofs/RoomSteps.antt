@@ -1,28 +1,27 @@
 -- That room was made, or was refused.
-use Rattle.std.proofs.Common.{◌≡◌, ◌^◌, ◌<◌, ◌≤◌, ◌⊎◌, ◌++◌, ◌∷◌, [], ℕ, suc, ◌+◌, ◌*◌, Bool, true, false, List, length, map, All, Any, Contains, Option, Some, None, IfSome, refl, sym, ◌∙◌, ap, ap₂, arith, subst, inl, inr}
-use Rattle.std.specs.Prelude.{count_by, is_none, min, nat_lt, slice_get, slice_index, slice_index_or, sum, ◌&&◌, not}
+use Rattle.std.proofs.Common.{◌≡◌, ◌^◌, ◌<◌, ◌≤◌, ◌++◌, ◌∷◌, [], ℕ, suc, ◌+◌, ◌*◌, Bool, true, false, List, length, map, All, Any, Contains, Option, Some, None, IfSome, refl, sym, ◌∙◌, ap, ap₂, arith, subst}
+use Rattle.std.specs.Prelude.{count_by, nat_lt, slice_get, slice_index, slice_index_or, sum}
 use Rattle.std.specs.List.{list_all}
-use Rattle.std.specs.Option.{option_map, option_map_or}
+use Rattle.std.specs.Option.{option_map}
 use Rattle.std.proofs.lemmas.Bool.Decides.{nat_tests}
 use Rattle.std.proofs.lemmas.List.{append-nil}
 use Rattle.std.proofs.lemmas.List.Sums.{sum_by-cons}
-use Rattle.rtrb.specs.Ring.{known_items, received, sent}
+use Rattle.rtrb.specs.Ring.{received, sent}
 use Rattle.service_core.specs.Link.{Identity}
-use Rattle.server_core.specs.Core.{Core, held, may_take}
+use Rattle.server_core.specs.Core.{may_take}
 use Rattle.server_run.specs.Delivery.{once_below}
-use Rattle.server_run.specs.Done.{Adds, Keeps, counted}
+use Rattle.server_run.specs.Done.{Adds, Keeps}
 use Rattle.server_run.specs.declared.entry.Entry.{Entry}
 use Rattle.server_jobs.specs.Cards.{Card}
 use Rattle.server_jobs.specs.declared.note.Note.TheVariants.{Back, Ready}
 use Rattle.server_jobs.specs.declared.waiting.Waiting.{Waiting}
-use Rattle.server_acceptor.specs.Accepting.{AsksFrom, Does, HasTaken, HasTold, IsShort, MayAsk, Proceeds, is_failed, received_at, refused}
-use Rattle.server_acceptor.specs.Acceptors.{all_ready, core_of, events_of, notes_of, out_of}
+use Rattle.server_acceptor.specs.Accepting.{AsksFrom, MayAsk, Proceeds, is_failed, received_at}
+use Rattle.server_acceptor.specs.Acceptors.{events_of}
 use Rattle.server_acceptor.specs.Asking.{MakesRoom}
 use Rattle.server_acceptor.specs.Carrying.{Carries, IsInPlace, ParcelIsInPlace, came_back, each, has_place, has_serial, in_waiting, put}
-use Rattle.server_acceptor.specs.Notes.{IsBackFirst, count_back}
+use Rattle.server_acceptor.specs.Notes.{count_back}
 use Rattle.server_acceptor.specs.Rings.{count_put, ring_in, ring_out}
 use Rattle.server_acceptor.specs.declared.acceptor.Acceptor.{Acceptor}
-use Rattle.server_acceptor.proofs.DoesSteps.{untouched_none}
 
 module _ {Li L : Type 0} (given : Li → ℕ) (left : Li → Option (List L)) (identity : L → Identity) (first now : List Li) where
   carries_room : (a b : Acceptor L) (entries : List (Entry L)) → MakesRoom a b → Carries given left identity first now a entries → Carries given left identity first now b entries
@@ -106,18 +105,6 @@ room_asks_none ls a b from to s = record {
   others = λ t out. ap (λ v. count_by (is_failed t) v.items) s.events;
   once = λ t. omega (arith, ap (λ v. count_by (is_failed t) v.items) s.events);
 }
-
-module _ {L : Type 0} (a b : Acceptor L) (s : MakesRoom a b) where
-  taken_still : HasTaken a → HasTaken b
-  taken_still told w = by_both (told w)
-    where
-      by_both : (HasTold a w ⊎ IsShort a) → HasTold b w ⊎ IsShort b
-      by_both (inl p) = inl (subst (λ core. IfSome (slice_get (notes_of b) w) (λ c. (known_items c ≡ []) ⊎ ((slice_index core.out w ≡ 0) × IsBackFirst (known_items c)))) (sym s.core)
-          (subst (λ ns. IfSome (slice_get ns.items w) (λ c. (known_items c ≡ []) ⊎ ((slice_index (core_of a).out w ≡ 0) × IsBackFirst (known_items c)))) (sym s.notes) p))
-      by_both (inr p) = inr (omega (arith, p, ap (λ k. length k.out) s.core, ap (λ v. length v.items) s.events))
-
-  pub may_still : MayAsk a → MayAsk b
-  may_still may = record { none = s.waiting ∙ may.none; unrefused = ap (λ v. refused (Some []) v.items) s.events ∙ may.unrefused; told = taken_still may.told }
 
 -- ---- a connection may be taken
 sum_within : (xs : List ℕ) → ((t : ℕ) → slice_index_or xs t 0 < 2 ^ 48) → sum xs ≤ length xs * 2 ^ 48

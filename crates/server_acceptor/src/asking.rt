@@ -1,11 +1,10 @@
 //! How the acceptor asks its listeners, one after the other.
-ghost use Rattle.std.specs.Prelude.{◌≡◌, ◌≢◌, ◌⊎◌, ◌+◌, ◌*◌, ◌≤◌, ◌<◌, ℕ, List, [], length, true, false, None, Some, is_some, slice_index_or, slice_get, count_by};
+ghost use Rattle.std.specs.Prelude.{◌≡◌, ◌⊎◌, ◌+◌, ◌*◌, ◌≤◌, ◌<◌, ℕ, List, [], length, true, false, None, Some, is_some, slice_index_or, slice_get, count_by};
 ghost use Rattle.server_core.specs.Core.{is_open};
 ghost use Rattle.server_run.specs.Delivery.{given_at};
 ghost use Rattle.server_run.specs.Done.{Keeps};
-ghost use Rattle.service_core.specs.Counts.{Rose};
-ghost use Rattle.server_acceptor.specs.Accepting.{AsksFrom, AsksInTurn, EndsByFault, GaveOrSkipped, HasHalted, HasSettled, HasTaken, IsAskedOut, IsBackedOff, IsShort, MayAsk, Proceeds, is_failed, refused};
-ghost use Rattle.server_acceptor.specs.Acceptors.{all_ready, core_of, events_of, first_of, listeners_of, out_of, places_of, waiting_of, workers_of};
+ghost use Rattle.server_acceptor.specs.Accepting.{AsksFrom, AsksInTurn, EndsByFault, GaveOrSkipped, HasHalted, HasSettled, IsAskedOut, IsBackedOff, MayAsk, Proceeds, is_failed, refused};
+ghost use Rattle.server_acceptor.specs.Acceptors.{all_ready, core_of, events_of, first_of, listeners_of, out_of, places_of, workers_of};
 ghost use Rattle.server_acceptor.specs.Asking.{AskDoes, ComesTo, MakesRoom};
 ghost use Rattle.server_acceptor.specs.Listening.{NeverFall};
 ghost use Rattle.server_acceptor.specs.declared.step.Step.TheVariants.{On, Settled, Halted, WorkerEnded};

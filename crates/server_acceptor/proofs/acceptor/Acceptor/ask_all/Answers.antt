@@ -1,5 +1,4 @@
-use Rattle.std.proofs.Common.{◌≡◌, ◌+◌, ◌<◌, ◌≤◌, refl, sym, ◌∙◌, ap, arith, subst, rules, length}
-use Rattle.server_acceptor.specs.Acceptors.{listeners_of}
+use Rattle.std.proofs.Common.{refl, arith, subst}
 use Rattle.server_acceptor.proofs.DoesSteps.{fault_after, proceeds_trans}
 use Rattle.server_acceptor.proofs.OutSteps.{AskedPart, in_turn_halted, in_turn_round, round_once, round_outs}
 use Rattle.server_acceptor.proofs.acceptor.Acceptor.ask_all.Goals as goal

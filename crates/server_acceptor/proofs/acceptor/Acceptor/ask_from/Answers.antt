@@ -1,4 +1,4 @@
-use Rattle.std.proofs.Common.{◌≡◌, ◌+◌, ◌<◌, ◌≤◌, refl, sym, ◌∙◌, ap, arith, rules, length, inl, inr}
+use Rattle.std.proofs.Common.{◌+◌, refl, ap, arith, inl, inr}
 use Rattle.server_acceptor.proofs.DoesSteps.{fault_after, proceeds_none, proceeds_trans}
 use Rattle.server_acceptor.proofs.OutSteps.{asks_within, to_asks, to_more, to_none, to_order, to_rests}
 use Rattle.server_acceptor.proofs.acceptor.Acceptor.ask_from.Goals as goal

@@ -1,4 +1,3 @@
-use Rattle.std.proofs.Common.{◌≡◌}
 use Rattle.server_acceptor.proofs.AskDoes.{ask_does, comes_to, given_on}
 use Rattle.server_acceptor.proofs.AskSteps.{may_fail}
 use Rattle.server_acceptor.proofs.RoomSteps.{may_take_now}

@@ -1,4 +1,4 @@
-use Rattle.std.proofs.Common.{◌≡◌, refl, sym, ◌∙◌, ap, arith, inl, inr}
+use Rattle.std.proofs.Common.{◌∙◌, ap, inl}
 use Rattle.std.specs.Prelude.{count_by}
 use Rattle.server_acceptor.specs.Accepting.{is_failed}
 use Rattle.server_acceptor.proofs.DoesSteps.{fault_after}

@@ -1,6 +1,6 @@
-use Rattle.std.proofs.Common.{◌≡◌, ◌+◌, ◌<◌, ◌≤◌, refl, sym, ◌∙◌, ap, arith, rules, length}
+use Rattle.std.proofs.Common.{refl, rules}
 use Rattle.server_acceptor.proofs.DoesSteps.{fault_after, proceeds_none, proceeds_trans}
-use Rattle.server_acceptor.proofs.OutSteps.{asked_enough, asked_more, asked_none, asked_settled, asks_more, is_over}
+use Rattle.server_acceptor.proofs.OutSteps.{asked_more, asked_none, asked_settled, asks_more}
 use Rattle.server_acceptor.proofs.acceptor.Acceptor.ask_out.Goals as goal
 
 pub returns-then-is_backed_off-clause-proceeds : goal.returns-then-is_backed_off-clause-proceeds

@@ -1,4 +1,4 @@
-use Rattle.std.proofs.Common.{◌≡◌, ◌≤◌, ℕ}
+use Rattle.std.proofs.Common.{◌≤◌, ℕ}
 use Rattle.std.specs.Prelude.{slice_index_or}
 use Rattle.server_run.specs.Delivery.{given_at}
 use Rattle.server_acceptor.specs.Accepting.{Proceeds}

@@ -1,4 +1,4 @@
-use Rattle.std.proofs.Common.{◌≡◌, ◌+◌, ◌<◌, arith, Fits, w64}
+use Rattle.std.proofs.Common.{arith}
 use Rattle.server_acceptor.proofs.RoomSteps.{few_given}
 use Rattle.server_acceptor.proofs.acceptor.Acceptor.has_room.Goals as goal
 
