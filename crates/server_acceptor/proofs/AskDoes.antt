@@ -1,6 +1,6 @@
 -- What asking a listener once does.
-use Rattle.std.proofs.Common.{◌≡◌, ◌≢◌, ◌^◌, ◌≤◌, ◌<◌, ◌⊎◌, ◌++◌, ◌∷◌, [], ℕ, zero, suc, ◌+◌, ◌*◌, ◌-◌, Bool, true, false, true≢false, cond, List, map, length, Contains, Option, Some, None, IfSome, refl, sym, ◌∙◌, ap, arith, subst, inl, inr, append_assoc, length-append, get_or-set_other}
-use Rattle.std.specs.Prelude.{⊤, count_by, min, nat_eq, slice_get, slice_index, slice_index_or, slice_set, sum, IsSomeAnd}
+use Rattle.std.proofs.Common.{◌≡◌, ◌≢◌, ◌^◌, ◌≤◌, ◌<◌, ◌⊎◌, ◌++◌, ◌∷◌, [], ℕ, zero, suc, ◌+◌, ◌-◌, Bool, true, false, true≢false, cond, List, map, length, Contains, Option, Some, None, IfSome, refl, sym, ◌∙◌, ap, arith, subst, inl, inr, length-append, get_or-set_other}
+use Rattle.std.specs.Prelude.{⊤, count_by, min, nat_eq, slice_get, slice_index, slice_index_or, sum, IsSomeAnd}
 use Rattle.std.specs.List.{list_all}
 use Rattle.std.proofs.Math.ListN.{length-set}
 use Rattle.std.proofs.lemmas.Bool.{cases_eq}
@@ -20,10 +20,10 @@ use Rattle.server_run.specs.declared.entry.Entry.{Entry}
 use Rattle.server_run.proofs.Progress.{adds_none}
 use Rattle.server_jobs.specs.declared.waiting.Waiting.{Waiting}
 use Rattle.server_jobs.specs.declared.note.Note.TheVariants.{Ready as ReadyNote}
-use Rattle.server_acceptor.specs.Accepting.{AsksFrom, Does, HasSettled, HasTaken, HasTold, IsBackedOff, IsOutside, IsShort, Logged, MayAsk, Proceeds, TellsEnds, is_back, is_failed, is_got, is_sent, received_at, refused, refused_by}
-use Rattle.server_acceptor.specs.Acceptors.{all_ready, core_of, events_of, failed_of, notes_of, out_of, places_of, ready_of, retry_limit_of, workers_of}
-use Rattle.server_acceptor.specs.Asking.{AskDoes, ComesTo, StaysOpen}
-use Rattle.server_acceptor.specs.AskingListeners.{AsksOnly, IsAsked, KeepsWaiting, Leaves, TakesUp}
+use Rattle.server_acceptor.specs.Accepting.{HasTaken, HasTold, IsOutside, IsShort, MayAsk, is_back, is_failed, is_got, is_sent, received_at, refused, refused_by}
+use Rattle.server_acceptor.specs.Acceptors.{all_ready, core_of, events_of, notes_of, out_of, ready_of}
+use Rattle.server_acceptor.specs.Asking.{AskDoes, ComesTo}
+use Rattle.server_acceptor.specs.AskingListeners.{AsksOnly, IsAsked, Leaves, TakesUp}
 use Rattle.server_acceptor.specs.Carrying.{Carries}
 use Rattle.server_acceptor.specs.Notes.{IsBackFirst, count_back}
 use Rattle.server_acceptor.specs.Listening.{AsksAt}
@@ -138,19 +138,18 @@ not_inside t v (inl below) same = absurd (omega arith)
 not_inside t v (inr above) same = absurd (omega arith)
 
 -- ---- the acceptor, before and after
-module _ {Li L D : Type 0} (given : Li → ℕ) (left : Li → Option (List L)) (identity : L → Identity) (ended : Li → Bool) (faults : Li → ℕ)
-    (taken : D → Option (List (Entry L))) (count served : D → ℕ) (before after : List Li) (a b : Acceptor L) (t : ℕ) (d : D)
+module _ {Li L : Type 0} (given : Li → ℕ) (left : Li → Option (List L)) (identity : L → Identity) (ended : Li → Bool) (faults : Li → ℕ)
+    (before after : List Li) (a b : Acceptor L) (t : ℕ)
     (opened : is_open (core_of a) t ≡ true) (ready : all_ready a ≡ true) (asks_at : AsksAt before after t)
     (never_falls : given_at faults before t ≤ given_at faults after t)
     (only : AsksOnly a b) (logs : Logs a.core b.core a.events.items b.events.items)
     (failed_others : (v : ℕ) → v ≢ t → slice_index_or b.failed.items v None ≡ slice_index_or a.failed.items v None)
     (carries : (first : List Li) (entries : List (Entry L)) → Carries given left identity first before a entries → Carries given left identity first after b entries)
-    (fits : (count d < 2 ^ 64) × (served d < 2 ^ 64)) (may : MayAsk a) where
-
+    (may : MayAsk a) where
   told_on : (w : ℕ) → HasTold a w → HasTold b w
   told_on w told =
       subst (λ out. IfSome (slice_get (notes_of b) w) (λ c. (known_items c ≡ []) ⊎ ((slice_index out w ≡ 0) × IsBackFirst (known_items c)))) (sym only.out)
-        (subst (λ ns. IfSome (slice_get ns.items w) (λ c. (known_items c ≡ []) ⊎ ((slice_index (core_of a).out w ≡ 0) × IsBackFirst (known_items c)))) (sym only.notes) told)
+      (subst (λ ns. IfSome (slice_get ns.items w) (λ c. (known_items c ≡ []) ⊎ ((slice_index (core_of a).out w ≡ 0) × IsBackFirst (known_items c)))) (sym only.notes) told)
 
   short_on : IsShort a → IsShort b
   short_on short = omega (arith, short, ap (λ (xs : List ℕ). length xs) only.out, ap (λ (xs : List Event). length xs) logs.appended, length-append a.events.items logs.more)
@@ -181,12 +180,16 @@ module _ {Li L D : Type 0} (given : Li → ℕ) (left : Li → Option (List L)) 
     failed_other : (v : ℕ) → v ≢ t → count_by (is_failed v) es ≡ 0
     failed_other v other = none_of (is_failed v) t refl (unlike t v other) refl es are
 
-    does : given_at given after t ≡ given_at given before t + count_by (is_got t) es
+    refused_still : refused (Some []) (events_of b) ≡ refused (Some []) (events_of a)
+    refused_still = ap (refused (Some [])) added ∙ refused_append (Some []) a.events.items es ∙ refused_same (refused (Some []) a.events.items) t es are
+
+    does : {D : Type 0} (taken : D → Option (List (Entry L))) (count served : D → ℕ) (d : D) → (count d < 2 ^ 64) × (served d < 2 ^ 64)
+        → given_at given after t ≡ given_at given before t + count_by (is_got t) es
         → (0 < count_by (is_failed t) es → Rose (given_at faults before t) (given_at faults after t))
         → (slice_index_or b.core.ended t false ≡ true → (HasEnded ended after t × (slice_index b.core.failures t ≢ a.retry_limit)) ⊎ ((slice_index b.core.failures t ≡ a.retry_limit) × Rose (given_at faults before t) (given_at faults after t)))
         → count_by (is_failed t) es ≤ 1
         → AskDoes given left identity ended faults taken count served before after a b t d
-    does got failed ends once = record {
+    does taken count served d fits got failed ends once = record {
       proceeds = record {
         more = es;
         appended = added;
@@ -251,7 +254,7 @@ module _ {Li L D : Type 0} (given : Li → ℕ) (left : Li → Option (List L)) 
           | inr other ↦ omega (arith, counted_more v, failed_other v other)
         ];
       };
-      same_refused = ap (refused (Some [])) added ∙ refused_append (Some []) a.events.items es ∙ refused_same (refused (Some []) a.events.items) t es are;
+      same_refused = refused_still;
       told = taken_on may.told;
     }
       where
@@ -261,43 +264,47 @@ module _ {Li L D : Type 0} (given : Li → ℕ) (left : Li → Option (List L)) 
         counted_more : (v : ℕ) → count_by (is_failed v) b.events.items ≡ count_by (is_failed v) a.events.items + count_by (is_failed v) es
         counted_more v = ap (count_by (is_failed v)) added ∙ sum_by-append (λ e. cond (is_failed v e) 1 0) a.events.items es
 
-  nothing : b.events.items ≡ a.events.items → given_at given after t ≡ given_at given before t → AskDoes given left identity ended faults taken count served before after a b t d
-  nothing events same =
-      let added : b.events.items ≡ a.events.items ++ [] = events ∙ sym (append-nil a.events.items) in
-      does [] tt added (omega (arith, same)) (λ some. absurd (omega (arith, some)))
+  module _ {D : Type 0} (taken : D → Option (List (Entry L))) (count served : D → ℕ) (d : D) (fits : (count d < 2 ^ 64) × (served d < 2 ^ 64)) where
+    nothing : b.events.items ≡ a.events.items → given_at given after t ≡ given_at given before t → AskDoes given left identity ended faults taken count served before after a b t d
+    nothing events same =
+        let added : b.events.items ≡ a.events.items ++ [] = events ∙ sym (append-nil a.events.items) in
+        does [] tt added taken count served d fits (omega (arith, same)) (λ some. absurd (omega (arith, some)))
         (λ over. absurd (true≢false (sym over ∙ ap (λ (c : Core). slice_index_or c.ended t false) (core_is [] tt added) ∙ opened_false a.core t opened)))
         (omega arith)
 
-  -- by what was answered
-  pub ask_does : (waits skips : Li → ℕ) (now : ℕ) (asked : Asked) → slice_index a.core.failures t < a.retry_limit → IsAsked given waits skips faults ended before after a b t now asked
-      → AskDoes given left identity ended faults taken count served before after a b t d
-  ask_does waits skips now Got fewer is =
-      does (GotOf t ∷ []) (refl, tt) is.0 (omega (arith, is.1, count_one (is_got t) (GotOf t) [], ap weight (alike t)))
+    -- by what was answered
+    pub ask_does : (waits skips : Li → ℕ) (now : ℕ) (asked : Asked) → slice_index a.core.failures t < a.retry_limit → IsAsked given waits skips faults ended before after a b t now asked
+        → AskDoes given left identity ended faults taken count served before after a b t d
+    ask_does waits skips now Got fewer is =
+        does (GotOf t ∷ []) (refl, tt) is.0 taken count served d fits (omega (arith, is.1, count_one (is_got t) (GotOf t) [], ap weight (alike t)))
         (λ some. absurd (omega (arith, some, count_one (is_failed t) (GotOf t) [])))
         (λ over. absurd (true≢false (sym over ∙ ap (λ (c : Core). slice_index_or c.ended t false) (core_is (GotOf t ∷ []) (refl, tt) is.0) ∙ opened_false a.core t opened)))
         (omega (arith, count_one (is_failed t) (GotOf t) []))
-  ask_does waits skips now NotYet fewer is = nothing is.0 is.1
-  ask_does waits skips now Skipped fewer is = nothing is.0 is.1
-  ask_does waits skips now Failed fewer is = by_events is.0.events
-    where
-      by_events : ((b.events.items ≡ a.events.items ++ ListenerFailed t ∷ []) ⊎ ((b.events.items ≡ a.events.items ++ (ListenerFailed t ∷ ListenerEnded t ∷ [])) × (slice_index b.core.failures t ≡ b.retry_limit)))
-          → AskDoes given left identity ended faults taken count served before after a b t d
-      by_events (inl added) =
-          does (ListenerFailed t ∷ []) (refl, tt) added (omega (arith, is.1, count_one (is_got t) (ListenerFailed t) []))
+    ask_does waits skips now NotYet fewer is = nothing is.0 is.1
+    ask_does waits skips now Skipped fewer is = nothing is.0 is.1
+    ask_does waits skips now Failed fewer is = by_events is.0.events
+      where
+        by_events : ((b.events.items ≡ a.events.items ++ ListenerFailed t ∷ []) ⊎ ((b.events.items ≡ a.events.items ++ (ListenerFailed t ∷ ListenerEnded t ∷ [])) × (slice_index b.core.failures t ≡ b.retry_limit)))
+            → AskDoes given left identity ended faults taken count served before after a b t d
+        by_events (inl added) =
+            does (ListenerFailed t ∷ []) (refl, tt) added taken count served d fits (omega (arith, is.1, count_one (is_got t) (ListenerFailed t) []))
             (λ some. is.2)
             (λ over. absurd (true≢false (sym over ∙ ap (λ (c : Core). slice_index_or c.ended t false) (core_is (ListenerFailed t ∷ []) (refl, tt) added) ∙ opened_false a.core t opened)))
             (omega (arith, count_one (is_failed t) (ListenerFailed t) [], ap weight (alike t)))
-      by_events (inr both) =
-          does (ListenerFailed t ∷ ListenerEnded t ∷ []) (refl, (refl, tt)) both.0 (omega (arith, is.1, count_one (is_got t) (ListenerFailed t) (ListenerEnded t ∷ []), count_one (is_got t) (ListenerEnded t) []))
+        by_events (inr both) =
+            does (ListenerFailed t ∷ ListenerEnded t ∷ []) (refl, (refl, tt)) both.0 taken count served d fits (omega (arith, is.1, count_one (is_got t) (ListenerFailed t) (ListenerEnded t ∷ []), count_one (is_got t) (ListenerEnded t) []))
             (λ some. is.2)
             (λ over. inr (both.1 ∙ only.retry_limit, is.2))
             (omega (arith, count_one (is_failed t) (ListenerFailed t) (ListenerEnded t ∷ []), count_one (is_failed t) (ListenerEnded t) [], ap weight (alike t)))
-  ask_does waits skips now Ended fewer is =
-      does (ListenerEnded t ∷ []) (refl, tt) is.0 (omega (arith, is.1, count_one (is_got t) (ListenerEnded t) []))
+    ask_does waits skips now Ended fewer is =
+        does (ListenerEnded t ∷ []) (refl, tt) is.0 taken count served d fits (omega (arith, is.1, count_one (is_got t) (ListenerEnded t) []))
         (λ some. absurd (omega (arith, some, count_one (is_failed t) (ListenerEnded t) [])))
-        (λ over. inl (is.2, λ full.
-          let same : slice_index b.core.failures t ≡ slice_index a.core.failures t = ap (λ (c : Core). slice_index c.failures t) (core_is (ListenerEnded t ∷ []) (refl, tt) is.0) in
-          omega (arith, fewer, same, full)))
+        (λ over. inl (
+          is.2,
+          λ full.
+              let same : slice_index b.core.failures t ≡ slice_index a.core.failures t = ap (λ (c : Core). slice_index c.failures t) (core_is (ListenerEnded t ∷ []) (refl, tt) is.0) in
+              omega (arith, fewer, same, full),
+        ))
         (omega (arith, count_one (is_failed t) (ListenerEnded t) []))
 
   -- ---- what the answer comes to
@@ -307,36 +314,50 @@ module _ {Li L D : Type 0} (given : Li → ℕ) (left : Li → Option (List L)) 
   out_more : (link : L) → TakesUp a b t link → out_of b ≡ out_of a + 1
   out_more link u = omega (arith, ap (λ xs. sum xs) only.out, ap (λ x. held x) (b.waits ∙ ap (option_map (λ (w : Waiting L). w.token)) u.waiting), ap (λ x. held x) (a.waits ∙ ap (option_map (λ (w : Waiting L). w.token)) u.none))
 
-  may_on : b.waiting ≡ a.waiting → AskDoes given left identity ended faults taken count served before after a b t d → MayAsk b
-  may_on same is = record { none = same ∙ may.none; unrefused = is.same_refused ∙ may.unrefused; told = is.told }
+  may_on : b.waiting ≡ a.waiting → refused (Some []) (events_of b) ≡ refused (Some []) (events_of a) → MayAsk b
+  may_on same refused = record { none = same ∙ may.none; unrefused = refused ∙ may.unrefused; told = taken_on may.told }
 
   pub comes_to : (waits skips : Li → ℕ) (now : ℕ) (asked : Asked) → IsAsked given waits skips faults ended before after a b t now asked → Leaves a b t asked
-      → AskDoes given left identity ended faults taken count served before after a b t d → ComesTo given waits skips before after a b t now asked
-  comes_to waits skips now Got is leaves did = (record {
+      → ComesTo given waits skips before after a b t now asked
+  comes_to waits skips now Got is leaves = (
+    record {
       opened = ap (λ c. is_open c t) (core_is (GotOf t ∷ []) (refl, tt) is.0) ∙ opened;
       failures = omega (arith, ap (count_by (is_failed t)) is.0, sum_by-append (λ e. cond (is_failed t e) 1 0) a.events.items (GotOf t ∷ []), count_one (is_failed t) (GotOf t) []);
-    }, is.1, out_more leaves.0 leaves.1)
-  comes_to waits skips now NotYet is leaves did = (inr (inl is.2), out_kept leaves.waiting, may_on leaves.waiting did)
-  comes_to waits skips now Skipped is leaves did = (record {
+    },
+    is.1,
+    out_more leaves.0 leaves.1,
+  )
+  comes_to waits skips now NotYet is leaves = (inr (inl is.2), out_kept leaves.waiting, may_on leaves.waiting (refused_still [] tt (is.0 ∙ sym (append-nil a.events.items))))
+  comes_to waits skips now Skipped is leaves = (
+    record {
       opened = ap (λ c. is_open c t) (core_is [] tt (is.0 ∙ sym (append-nil a.events.items))) ∙ opened;
       failures = ap (count_by (is_failed t)) is.0;
-    }, inr (is.1, is.2), out_kept leaves.waiting, may_on leaves.waiting did)
-  comes_to waits skips now Failed is leaves did =
-      (inr (inr (subst (λ o. IsSomeAnd o (λ failed. now < failed + 500)) (sym is.0.failed) (omega arith))), out_kept leaves.waiting, may_on leaves.waiting did)
-  comes_to waits skips now Ended is leaves did =
-      (inl (ap (λ (c : Core). slice_index_or c.ended t true) (core_is (ListenerEnded t ∷ []) (refl, tt) is.0) ∙ marked_at a.core.ended t), out_kept leaves.waiting, may_on leaves.waiting did)
-
-  -- no listener gave fewer than it has places
-  pub given_on : (asked : Asked) → Leaves a b t asked → slice_index_or b.places.items t 0 ≤ given_at given after t
-      → ((v : ℕ) → slice_index_or a.places.items v 0 ≤ given_at given before v) → (v : ℕ) → slice_index_or b.places.items v 0 ≤ given_at given after v
-  given_on asked leaves here all v = elim (cases_eq v t) [
-      | inl same ↦ rw same here
-      | inr other ↦ omega (arith, place_other asked leaves v other, ap (λ o. option_map_or given o 0) (asks_at.others v other), all v)
-    ]
+    },
+    inr (is.1, is.2),
+    out_kept leaves.waiting,
+    may_on leaves.waiting (refused_still [] tt (is.0 ∙ sym (append-nil a.events.items))),
+  )
+  comes_to waits skips now Failed is leaves =
+      (inr (inr (subst (λ o. IsSomeAnd o (λ failed. now < failed + 500)) (sym is.0.failed) (omega arith))), out_kept leaves.waiting, may_on leaves.waiting (by_events is.0.events))
     where
-      place_other : (asked : Asked) → Leaves a b t asked → (v : ℕ) → v ≢ t → slice_index_or b.places.items v 0 ≡ slice_index_or a.places.items v 0
-      place_other Got leaves v other = ap (λ xs. slice_index_or xs v 0) leaves.1.places ∙ get_or-set_other a.places.items t v (slice_index_or a.places.items t 0 + 1) 0 other
-      place_other NotYet leaves v other = ap (λ ps. slice_index_or ps.items v 0) leaves.places
-      place_other Skipped leaves v other = ap (λ ps. slice_index_or ps.items v 0) leaves.places
-      place_other Failed leaves v other = ap (λ ps. slice_index_or ps.items v 0) leaves.places
-      place_other Ended leaves v other = ap (λ ps. slice_index_or ps.items v 0) leaves.places
+      by_events : ((b.events.items ≡ a.events.items ++ ListenerFailed t ∷ []) ⊎ ((b.events.items ≡ a.events.items ++ (ListenerFailed t ∷ ListenerEnded t ∷ [])) × (slice_index b.core.failures t ≡ b.retry_limit)))
+          → refused (Some []) (events_of b) ≡ refused (Some []) (events_of a)
+      by_events (inl added) = refused_still (ListenerFailed t ∷ []) (refl, tt) added
+      by_events (inr both) = refused_still (ListenerFailed t ∷ ListenerEnded t ∷ []) (refl, (refl, tt)) both.0
+  comes_to waits skips now Ended is leaves =
+      (inl (ap (λ (c : Core). slice_index_or c.ended t true) (core_is (ListenerEnded t ∷ []) (refl, tt) is.0) ∙ marked_at a.core.ended t), out_kept leaves.waiting, may_on leaves.waiting (refused_still (ListenerEnded t ∷ []) (refl, tt) is.0))
+
+-- no listener gave fewer than it has places
+pub given_on : {Li L : Type 0} (given : Li → ℕ) (before after : List Li) (a b : Acceptor L) (t : ℕ) → AsksAt before after t → (asked : Asked) → Leaves a b t asked → slice_index_or b.places.items t 0 ≤ given_at given after t
+    → ((v : ℕ) → slice_index_or a.places.items v 0 ≤ given_at given before v) → (v : ℕ) → slice_index_or b.places.items v 0 ≤ given_at given after v
+given_on given before after a b t asks_at asked leaves here all v = elim (cases_eq v t) [
+  | inl same ↦ rw same here
+  | inr other ↦ omega (arith, place_other asked leaves v other, ap (λ o. option_map_or given o 0) (asks_at.others v other), all v)
+]
+  where
+    place_other : (asked : Asked) → Leaves a b t asked → (v : ℕ) → v ≢ t → slice_index_or b.places.items v 0 ≡ slice_index_or a.places.items v 0
+    place_other Got leaves v other = ap (λ xs. slice_index_or xs v 0) leaves.1.places ∙ get_or-set_other a.places.items t v (slice_index_or a.places.items t 0 + 1) 0 other
+    place_other NotYet leaves v other = ap (λ ps. slice_index_or ps.items v 0) leaves.places
+    place_other Skipped leaves v other = ap (λ ps. slice_index_or ps.items v 0) leaves.places
+    place_other Failed leaves v other = ap (λ ps. slice_index_or ps.items v 0) leaves.places
+    place_other Ended leaves v other = ap (λ ps. slice_index_or ps.items v 0) leaves.places

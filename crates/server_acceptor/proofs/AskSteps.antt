@@ -1,29 +1,22 @@
 -- What the events of a listener are.
-use Rattle.std.proofs.Common.{◌≡◌, ◌≢◌, ℕ, zero, suc, ◌++◌, ◌∷◌, [], ◌+◌, ◌-◌, ◌<◌, ◌≤◌, ◌^◌, Bool, true, false, true≢false, List, length, Option, Some, get_or, set, refl, sym, ap, subst, ◌∙◌, arith, get_or-set_same, get_or-set_other, inl, inr}
-use Rattle.std.specs.Prelude.{not, ◌&&◌, min, nat_lt, slice_index, slice_index_or, slice_set, sum}
+use Rattle.std.proofs.Common.{◌≡◌, ℕ, zero, suc, ◌++◌, ◌∷◌, [], ◌+◌, ◌<◌, ◌≤◌, Bool, true, false, true≢false, List, length, get_or, refl, sym, ap, subst, ◌∙◌, arith, get_or-set_other, inl, inr}
+use Rattle.std.specs.Prelude.{not, ◌&&◌, nat_lt, slice_index, slice_index_or, slice_set, sum}
 use Rattle.std.proofs.lemmas.Bool.{cases_eq}
 use Rattle.std.proofs.lemmas.Bool.Decides.{nat_tests}
 use Rattle.std.proofs.lemmas.List.Sums.{sum_by-set}
 use Rattle.std.specs.FinSet as finite
-use Rattle.server_core.specs.Core.{Core, allowed, in_order, is_open, may_take, step}
+use Rattle.server_core.specs.Core.{Core, in_order, is_open, may_take, step}
 use Rattle.server_core.specs.declared.event.Event.{Event}
-use Rattle.server_core.specs.declared.event.Event.TheVariants.{Got, ListenerEnded, ListenerFailed}
+use Rattle.server_core.specs.declared.event.Event.TheVariants.{Got, ListenerEnded}
 use Rattle.server_acceptor.specs.Logging.{Logs}
-use Rattle.server_acceptor.proofs.PlaceSteps.{IsRuled}
-use Rattle.server_acceptor.proofs.LogSteps.{logs_one, logs_trans}
+use Rattle.server_acceptor.proofs.PlaceSteps.{IsPatient, IsRuled}
+use Rattle.server_acceptor.proofs.LogSteps.{logs_one}
 
 pub got_logs : (s u : Core) (t : ℕ) (xs ys : List Event) → is_open s t ≡ true → may_take s ≡ true → u ≡ step s (Got t) → ys ≡ xs ++ Got t ∷ [] → Logs s u xs ys
 got_logs s u t xs ys opened may is more = logs_one s u xs ys (Got t) (rw (opened, may) refl) tt is more
 
-pub failed_logs : (s u : Core) (t : ℕ) (xs ys : List Event) → is_open s t ≡ true → u ≡ step s (ListenerFailed t) → ys ≡ xs ++ ListenerFailed t ∷ [] → Logs s u xs ys
-failed_logs s u t xs ys opened is more = logs_one s u xs ys (ListenerFailed t) opened tt is more
-
 pub ended_logs : (s u : Core) (t : ℕ) (xs ys : List Event) → is_open s t ≡ true → u ≡ step s (ListenerEnded t) → ys ≡ xs ++ ListenerEnded t ∷ [] → Logs s u xs ys
 ended_logs s u t xs ys opened is more = logs_one s u xs ys (ListenerEnded t) opened tt is more
-
-pub given_up_logs : (s u v : Core) (t : ℕ) (xs ys zs : List Event) → is_open s t ≡ true → u ≡ step s (ListenerFailed t) → ys ≡ xs ++ ListenerFailed t ∷ [] → v ≡ step u (ListenerEnded t) → zs ≡ ys ++ ListenerEnded t ∷ [] → Logs s v xs zs
-given_up_logs s u v t xs ys zs opened is more then_is then_more =
-    logs_trans (failed_logs s u t xs ys opened is more) (ended_logs u v t ys zs (ap (λ (c : Core). is_open c t) is ∙ opened) then_is then_more)
 
 -- ---- the places of the listeners
 -- what was read there
@@ -42,14 +35,11 @@ set_at_most (x ∷ xs) (suc t) n = set_at_most xs t n
 
 pub all_below_set : (xs : List ℕ) (t n most : ℕ) → n < most → ((v : ℕ) → slice_index_or xs v 0 < most) → (v : ℕ) → slice_index_or (slice_set xs t n) v 0 < most
 all_below_set xs t n most below all v = elim (cases_eq v t) [
-    | inl same ↦ rw same (omega (arith, set_at_most xs t n, below))
-    | inr other ↦ omega (arith, get_or-set_other xs t v n 0 other, all v)
-  ]
+  | inl same ↦ rw same (omega (arith, set_at_most xs t n, below))
+  | inr other ↦ omega (arith, get_or-set_other xs t v n 0 other, all v)
+]
 
 -- ---- a listener that is open may still fail
-abbrev pub ArePatient : Core → ℕ → Type 0
-ArePatient s limit = (t : ℕ) → slice_index_or s.ended t true ≡ false → slice_index s.failures t < limit
-
 pub opened_at : (s : Core) (t : ℕ) → is_open s t ≡ true → slice_index_or s.ended t true ≡ false
 opened_at s t opened = by_both (nat_lt t (length s.ended)) (slice_index_or s.ended t true) opened
   where
@@ -61,39 +51,25 @@ opened_at s t opened = by_both (nat_lt t (length s.ended)) (slice_index_or s.end
 pub opened_below : (s : Core) (t : ℕ) → is_open s t ≡ true → t < length s.ended
 opened_below s t opened = grind (arith, nat_tests)
 
-pub may_fail : (s : Core) (limit t : ℕ) → ArePatient s limit → is_open s t ≡ true → slice_index s.failures t < limit
+pub may_fail : (s : Core) (limit t : ℕ) → IsPatient s limit → is_open s t ≡ true → slice_index s.failures t < limit
 may_fail s limit t patient opened = patient t (opened_at s t opened)
 
-pub patient_got : (s u : Core) (limit t : ℕ) → ArePatient s limit → is_open s t ≡ true → u ≡ step s (Got t) → ArePatient u limit
-patient_got s u limit t patient opened is = subst (λ c. ArePatient c limit) (sym is) (λ v still. elim (cases_eq v t) [
-    | inl same ↦ rw same (omega (arith, set_at_most s.failures t 0, may_fail s limit t patient opened))
-    | inr other ↦ omega (arith, get_or-set_other s.failures t v 0 0 other, patient v still)
-  ])
-
-pub patient_failed : (s u : Core) (limit t : ℕ) → ArePatient s limit → is_open s t ≡ true → u ≡ step s (ListenerFailed t) → slice_index u.failures t ≢ limit → ArePatient u limit
-patient_failed s u limit t patient opened is fewer = subst (λ c. ArePatient c limit) (sym is) (λ v still. elim (cases_eq v t) [
-    | inl same ↦ rw same (
-        let unlike : slice_index (slice_set s.failures t (min (slice_index s.failures t + 1) (2 ^ 64 - 1))) t ≢ limit = λ e. fewer (ap (λ (c : Core). slice_index c.failures t) is ∙ e) in
-        omega (arith, set_at_most s.failures t (min (slice_index s.failures t + 1) (2 ^ 64 - 1)), may_fail s limit t patient opened, unlike))
-    | inr other ↦ omega (arith, get_or-set_other s.failures t v (min (slice_index s.failures t + 1) (2 ^ 64 - 1)) 0 other, patient v still)
-  ])
+pub patient_got : (s u : Core) (limit t : ℕ) → IsPatient s limit → is_open s t ≡ true → u ≡ step s (Got t) → IsPatient u limit
+patient_got s u limit t patient opened is = subst (λ c. IsPatient c limit) (sym is) (λ v still. elim (cases_eq v t) [
+  | inl same ↦ rw same (omega (arith, set_at_most s.failures t 0, may_fail s limit t patient opened))
+  | inr other ↦ omega (arith, get_or-set_other s.failures t v 0 0 other, patient v still)
+])
 
 pub marked_at : (xs : List Bool) (t : ℕ) → slice_index_or (slice_set xs t true) t true ≡ true
 marked_at [] t = refl
 marked_at (x ∷ xs) zero = refl
 marked_at (x ∷ xs) (suc t) = marked_at xs t
 
-pub patient_ended : (s u : Core) (limit t : ℕ) → ArePatient s limit → u ≡ step s (ListenerEnded t) → ArePatient u limit
-patient_ended s u limit t patient is = subst (λ c. ArePatient c limit) (sym is) (λ v still. elim (cases_eq v t) [
-    | inl same ↦ absurd (true≢false (sym (marked_at s.ended t) ∙ ap (λ x. slice_index_or (slice_set s.ended t true) x true) (sym same) ∙ still))
-    | inr other ↦ patient v (sym (get_or-set_other s.ended t v true true other) ∙ still)
-  ])
-
-pub patient_given_up : (s u w : Core) (limit t : ℕ) → ArePatient s limit → u ≡ step s (ListenerFailed t) → w ≡ step u (ListenerEnded t) → ArePatient w limit
-patient_given_up s u w limit t patient is then_is = subst (λ c. ArePatient c limit) (sym (then_is ∙ ap (λ c. step c (ListenerEnded t)) is)) (λ v still. elim (cases_eq v t) [
-    | inl same ↦ absurd (true≢false (sym (marked_at s.ended t) ∙ ap (λ x. slice_index_or (slice_set s.ended t true) x true) (sym same) ∙ still))
-    | inr other ↦ omega (arith, get_or-set_other s.failures t v (min (slice_index s.failures t + 1) (2 ^ 64 - 1)) 0 other, patient v (sym (get_or-set_other s.ended t v true true other) ∙ still))
-  ])
+pub patient_ended : (s u : Core) (limit t : ℕ) → IsPatient s limit → u ≡ step s (ListenerEnded t) → IsPatient u limit
+patient_ended s u limit t patient is = subst (λ c. IsPatient c limit) (sym is) (λ v still. elim (cases_eq v t) [
+  | inl same ↦ absurd (true≢false (sym (marked_at s.ended t) ∙ ap (λ x. slice_index_or (slice_set s.ended t true) x true) (sym same) ∙ still))
+  | inr other ↦ patient v (sym (get_or-set_other s.ended t v true true other) ∙ still)
+])
 
 -- the rule of the limit stays, where the workers stay as they are
 pub ruled_kept : (s u : Core) (limit : ℕ) → u.order ≡ s.order → u.free ≡ s.free → u.out ≡ s.out → IsRuled s limit → IsRuled u limit

@@ -1,5 +1,5 @@
 -- What the acceptor did, one part behind the other.
-use Rattle.std.proofs.Common.{◌≡◌, ◌≢◌, ◌^◌, ◌≤◌, ◌<◌, ◌⊎◌, ◌++◌, ◌∷◌, [], ℕ, zero, suc, ◌+◌, Bool, true, false, cond, List, length, Option, Some, None, IfSome, Contains, refl, sym, ◌∙◌, ap, arith, subst, inl, inr, append_assoc}
+use Rattle.std.proofs.Common.{◌≡◌, ◌≢◌, ◌^◌, ◌≤◌, ◌<◌, ◌⊎◌, ◌++◌, [], ℕ, zero, suc, ◌+◌, Bool, true, false, cond, List, Option, IfSome, refl, sym, ◌∙◌, ap, arith, subst, inl, inr, append_assoc}
 use Rattle.std.specs.Prelude.{count_by, slice_get, slice_index, slice_index_or}
 use Rattle.std.proofs.lemmas.List.{append-nil}
 use Rattle.std.proofs.lemmas.List.Sums.{sum_by-append}
@@ -7,18 +7,15 @@ use Rattle.std.proofs.lemmas.List.Elements.{Contains-append_right}
 use Rattle.std.specs.Option.{option_map_or}
 use Rattle.service_core.specs.Counts.{Rose}
 use Rattle.service_core.specs.Link.{Identity}
-use Rattle.server_core.specs.Core.{Core}
 use Rattle.server_core.specs.Runs.{AllAllowed, after_all}
 use Rattle.server_core.specs.declared.event.Event.{Event}
-use Rattle.server_run.specs.Delivery.{HasEnded, given_at, left_at}
-use Rattle.server_run.specs.Done.{Adds, Keeps}
+use Rattle.server_run.specs.Delivery.{HasEnded, given_at}
 use Rattle.server_run.specs.declared.entry.Entry.{Entry}
 use Rattle.server_run.proofs.Progress.{adds_none}
-use Rattle.server_acceptor.specs.Accepting.{Awaits, Does, EndsByFault, Logged, Passes, Proceeds, Receives, TellsEnds, Untouched, is_back, is_failed, is_got, is_sent}
+use Rattle.server_acceptor.specs.Accepting.{Does, EndsByFault, Logged, Proceeds, Receives, TellsEnds, Untouched, is_back, is_failed, is_got, is_sent}
 use Rattle.server_acceptor.specs.Acceptors.{all_ready, core_of, events_of, retry_limit_of}
 use Rattle.server_acceptor.specs.Carrying.{Carries}
 use Rattle.server_acceptor.specs.Logging.{AllOfUse}
-use Rattle.server_acceptor.specs.Rings.{KeepsRings}
 use Rattle.server_acceptor.proofs.LogSteps.{after_append, allowed_append, of_use_append}
 use Rattle.server_acceptor.proofs.NoteSteps.{adds_trans}
 use Rattle.server_acceptor.specs.declared.acceptor.Acceptor.{Acceptor}

@@ -1,6 +1,6 @@
 -- What comes back from the workers, one note after the other.
-use Rattle.std.proofs.Common.{◌≡◌, ◌≢◌, ℕ, zero, suc, ◌+◌, ◌-◌, ◌<◌, ◌≤◌, Bool, true, false, true≢false, cond, List, [], ◌∷◌, ◌++◌, length, map, get_or, set, sum_by, All, Any, Contains, Option, Some, None, IfSome, refl, sym, ap, subst, ◌∙◌, arith, nat_lt, inl, inr, get_or-set_same, get_or-set_other, append-nil, append_assoc}
-use Rattle.std.specs.Prelude.{◌&&◌, ◌||◌, not, count_by, nat_eq, slice_get, slice_set, slice_index, slice_index_or, sum}
+use Rattle.std.proofs.Common.{◌≡◌, ◌≢◌, ℕ, zero, suc, ◌+◌, ◌-◌, ◌<◌, ◌≤◌, true, false, cond, List, [], ◌∷◌, ◌++◌, length, map, get_or, set, sum_by, All, Any, Contains, Some, IfSome, refl, sym, ap, subst, ◌∙◌, arith, nat_lt, inl, inr, get_or-set_same, get_or-set_other}
+use Rattle.std.specs.Prelude.{◌||◌, count_by, nat_eq, slice_get, slice_set, slice_index, sum}
 use Rattle.std.specs.Option.{option_map_or}
 use Rattle.std.specs.FinSet as set
 use Rattle.std.specs.FinSet.{contains-insert}
@@ -83,8 +83,13 @@ module _ {L A P : Type 0} (ps : List (Consumer (Note L) A P)) (w : ℕ) (p q : C
   same_ends same = map-set_same ring_out ps w q p ((λ i. (same.0.0 i, (same.0.1 i, (same.0.2 i, same.0.3 i)))) ∙ ap ring_out is)
 
   pub came_more : (identity : L → Identity) (h : Card → ℕ) → came_back identity h (set ps w q) ≡ came_back identity h ps + of_note identity h note
-  came_more identity h = omega (arith, sum_by-set (λ c. sum_by (of_note identity h) (received c)) ps w q p inside,
-      ap (λ c. sum_by (of_note identity h) (received c)) is, ap (sum_by (of_note identity h)) more, sum_by_push (of_note identity h) (received p) note)
+  came_more identity h = omega (
+    arith,
+    sum_by-set (λ c. sum_by (of_note identity h) (received c)) ps w q p inside,
+    ap (λ c. sum_by (of_note identity h) (received c)) is,
+    ap (sum_by (of_note identity h)) more,
+    sum_by_push (of_note identity h) (received p) note,
+  )
 
   at_w : (identity : L → Identity) → count_back identity ps w ≡ sum_by (of_note identity (λ x. 1)) (received p)
   at_w identity = ap (λ o. option_map_or (λ c. sum_by (of_note identity (λ x. 1)) (received c)) o 0) (slice_get-get_or ps w p inside) ∙ ap (λ c. sum_by (of_note identity (λ x. 1)) (received c)) (sym is)
@@ -98,11 +103,11 @@ module _ {L A P : Type 0} (ps : List (Consumer (Note L) A P)) (w : ℕ) (p q : C
 
   pub kept_notes : (n : Note L) → Any (λ c. Contains (received c) n) ps → Any (λ c. Contains (received c) n) (set ps w q)
   kept_notes n (k, c, below, at, has) = elim (cases_eq k w) [
-      | inl same ↦
-          let there : c ≡ p = sym at ∙ ap (λ i. get_or ps i c) same ∙ any_d ps w c p inside ∙ sym is in
-          any-set (λ r. Contains (received r) n) ps w q inside (subst (λ ns. Contains ns n) (sym more) (Contains-append_left (received p) (note ∷ []) n (subst (λ r. Contains (received r) n) there has)))
-      | inr differ ↦ (k, c, omega (arith, length-set ps w q, below), get_or-set_other ps w k q c differ ∙ at, has)
-    ]
+    | inl same ↦
+        let there : c ≡ p = sym at ∙ ap (λ i. get_or ps i c) same ∙ any_d ps w c p inside ∙ sym is in
+        any-set (λ r. Contains (received r) n) ps w q inside (subst (λ ns. Contains ns n) (sym more) (Contains-append_left (received p) (note ∷ []) n (subst (λ r. Contains (received r) n) there has)))
+    | inr differ ↦ (k, c, omega (arith, length-set ps w q, below), get_or-set_other ps w k q c differ ∙ at, has)
+  ]
     where
       any_d : (xs : List (Consumer (Note L) A P)) (i : ℕ) (c d : Consumer (Note L) A P) → i < length xs → get_or xs i c ≡ get_or xs i d
       any_d [] i c d b = absurd (omega arith)
@@ -126,16 +131,20 @@ module _ {L A P : Type 0} (ps : List (Consumer (Note L) A P)) (w : ℕ) (p q : C
   pub balance_back : (identity : L → Identity) (before after : List ℕ) → of_note identity (λ x. 1) note ≡ 1 → w < length before → 0 < slice_index before w
       → after ≡ slice_set before w (slice_index before w - 1) → (v : ℕ) → count_back identity (set ps w q) v + slice_index after v ≡ count_back identity ps v + slice_index before v
   balance_back identity before after one within some now v = elim (cases_eq v w) [
-      | inl same ↦ rw same (omega (arith, count_more identity, one, ap (λ xs. slice_index xs w) now, get_or-set_same before w (slice_index before w - 1) 0 within))
-      | inr differ ↦ omega (arith, ap (λ o. option_map_or (λ c. sum_by (of_note identity (λ x. 1)) (received c)) o 0) (set_other v differ),
-          ap (λ xs. slice_index xs v) now, get_or-set_other before w v (slice_index before w - 1) 0 differ)
-    ]
+    | inl same ↦ rw same (omega (arith, count_more identity, one, ap (λ xs. slice_index xs w) now, get_or-set_same before w (slice_index before w - 1) 0 within))
+    | inr differ ↦ omega (
+      arith,
+      ap (λ o. option_map_or (λ c. sum_by (of_note identity (λ x. 1)) (received c)) o 0) (set_other v differ),
+      ap (λ xs. slice_index xs v) now,
+      get_or-set_other before w v (slice_index before w - 1) 0 differ,
+    )
+  ]
 
   pub balance_same : (identity : L → Identity) (before : List ℕ) → of_note identity (λ x. 1) note ≡ 0 → (v : ℕ) → count_back identity (set ps w q) v + slice_index before v ≡ count_back identity ps v + slice_index before v
   balance_same identity before none v = elim (cases_eq v w) [
-      | inl same ↦ rw same (omega (arith, count_more identity, none))
-      | inr differ ↦ omega (arith, ap (λ o. option_map_or (λ c. sum_by (of_note identity (λ x. 1)) (received c)) o 0) (set_other v differ))
-    ]
+    | inl same ↦ rw same (omega (arith, count_more identity, none))
+    | inr differ ↦ omega (arith, ap (λ o. option_map_or (λ c. sum_by (of_note identity (λ x. 1)) (received c)) o 0) (set_other v differ))
+  ]
 
 pub back_logs : (s t : Core) (w : ℕ) (xs ys : List Event) → w < length s.out → 0 < slice_index s.out w → t ≡ step s (BackOf w) → ys ≡ xs ++ BackOf w ∷ [] → Logs s t xs ys
 back_logs s t w xs ys below some is more =
@@ -148,8 +157,8 @@ pub freed_logs : (s t u : Core) (limit w : ℕ) (xs ys zs : List Event) → IsRu
 freed_logs s t u limit w xs ys zs ruled there full below some is more then_is then_more =
     let number : is_worker t w ≡ true = ap (λ (c : Core). is_worker c w) is ∙ grind (arith, nat_tests, length-set s.out w (slice_index s.out w - 1)) in
     logs_trans (back_logs s t w xs ys below some is more)
-      (logs_one t u ys zs (Notice w) number
-        (ap (λ (c : Core). in_order c.order w) is ∙ there, ap (λ (c : Core). set.contains c.free w) is ∙ full_not_free s limit w ruled there full) then_is then_more)
+    (logs_one t u ys zs (Notice w) number
+    (ap (λ (c : Core). in_order c.order w) is ∙ there, ap (λ (c : Core). set.contains c.free w) is ∙ full_not_free s limit w ruled there full) then_is then_more)
 
 -- the same, with what these events are
 pub lowered_back : (s t : Core) (w : ℕ) (xs ys : List Event) → w < length s.out → 0 < slice_index s.out w → t ≡ step s (BackOf w) → ys ≡ xs ++ BackOf w ∷ []

@@ -1,19 +1,17 @@
 -- What the acceptor did where it took back what the workers handed it.
-use Rattle.std.proofs.Common.{◌≡◌, ◌^◌, ◌<◌, ◌≤◌, ◌⊎◌, ◌++◌, ◌∷◌, [], ℕ, ◌+◌, Bool, true, false, true≢false, cond, List, length, map, Option, Some, None, refl, sym, ◌∙◌, ap, ap₂, arith, subst, inl, inr}
+use Rattle.std.proofs.Common.{◌≡◌, ◌^◌, ◌<◌, ◌++◌, ◌∷◌, [], ℕ, Bool, false, true≢false, cond, List, length, map, Option, Some, None, refl, sym, ◌∙◌, ap, arith, subst, inl, inr}
 use Rattle.std.specs.Prelude.{count_by, slice_index, slice_index_or}
 use Rattle.std.specs.Option.{option_map}
 use Rattle.std.proofs.lemmas.List.{append-nil}
 use Rattle.std.proofs.lemmas.List.Sums.{sum_by-append}
-use Rattle.service_core.specs.Counts.{Rose}
 use Rattle.service_core.specs.Link.{Identity}
 use Rattle.server_core.specs.Core.{Core}
 use Rattle.server_core.specs.declared.event.Event.{Event}
 use Rattle.server_core.specs.declared.event.Event.TheVariants.{Notice, Back as BackOf}
-use Rattle.server_run.specs.Delivery.{given_at}
-use Rattle.server_run.specs.Done.{Adds, Keeps}
+use Rattle.server_run.specs.Done.{Adds}
 use Rattle.server_run.specs.declared.entry.Entry.{Entry}
-use Rattle.server_acceptor.specs.Accepting.{Does, Proceeds, TellsEnds, Untouched, is_back, is_failed, is_got, is_sent}
-use Rattle.server_acceptor.specs.Acceptors.{all_ready, core_of, events_of}
+use Rattle.server_acceptor.specs.Accepting.{Does, Proceeds, TellsEnds, Untouched, is_failed, is_got, is_sent}
+use Rattle.server_acceptor.specs.Acceptors.{all_ready}
 use Rattle.server_acceptor.specs.Handing.{AllReturn, Hands}
 use Rattle.server_acceptor.specs.Rings.{count_put, ring_in}
 use Rattle.server_acceptor.specs.declared.acceptor.Acceptor.{Acceptor}
@@ -25,9 +23,9 @@ count_returns : (test : Event → Bool) → ((w : ℕ) → test (BackOf w) ≡ f
 count_returns test back notice [] all = refl
 count_returns test back notice (e ∷ events) all =
     let one : test e ≡ false = elim all.0 [
-        | inl is ↦ ap test is.1 ∙ back is.0
-        | inr is ↦ ap test is.1 ∙ notice is.0
-      ] in
+      | inl is ↦ ap test is.1 ∙ back is.0
+      | inr is ↦ ap test is.1 ∙ notice is.0
+    ] in
     omega (arith, sum_by-append (λ x. cond (test x) 1 0) (e ∷ []) events, ap {B = ℕ} (λ b. cond b 1 0) one, count_returns test back notice events all.1)
 
 pub none_got : (events : List Event) (t : ℕ) → AllReturn events → count_by (is_got t) events ≡ 0

@@ -7,8 +7,11 @@ pub mod HandsDoes
 pub mod LogSteps
 pub mod NewSteps
 pub mod NoteSteps
+pub mod OnceSteps
+pub mod OutSteps
 pub mod PlaceSteps
 pub mod PlacedDoes
+pub mod RoomSteps
 pub mod Rotating
 pub mod StopSteps
 pub mod Taking

@@ -1,5 +1,5 @@
 -- Which note of a worker comes next, and what came back, one part after the other.
-use Rattle.std.proofs.Common.{◌≡◌, ◌⊎◌, ℕ, zero, suc, ◌+◌, ◌*◌, ◌^◌, ◌<◌, ◌≤◌, cond, List, [], ◌∷◌, ◌++◌, length, map, get_or, set, sum_by, ◌≢◌, All, Any, Contains, Option, Some, None, IfSome, refl, sym, ap, ap₂, subst, ◌∙◌, arith, inl, inr, append_assoc, length-append, get_or-set_same, get_or-set_other}
+use Rattle.std.proofs.Common.{◌≡◌, ◌⊎◌, ℕ, zero, suc, ◌+◌, ◌*◌, ◌^◌, ◌<◌, ◌≤◌, cond, List, [], ◌∷◌, ◌++◌, length, map, get_or, set, sum_by, ◌≢◌, Any, Contains, Option, Some, None, refl, sym, ap, ap₂, subst, ◌∙◌, arith, inl, inr, append_assoc, length-append, get_or-set_same, get_or-set_other}
 use Rattle.std.specs.Prelude.{slice_get, slice_index, vec_len}
 use Rattle.std.specs.Option.{option_map, option_map_or}
 use Rattle.std.proofs.Math.Seq.{map-set_same}
@@ -13,14 +13,12 @@ use Rattle.std.proofs.lemmas.List.Elements.{All-nil, All-append, Contains-append
 use Rattle.rtrb.specs.Ring.{known_items, received, SameConsumer}
 use Rattle.rtrb.specs.declared.consumer.Consumer.{Consumer}
 use Rattle.service_core.specs.Link.{Identity}
-use Rattle.server_run.specs.Done.{Adds, counted, is_served, served_count}
+use Rattle.server_run.specs.Done.{Adds, is_served}
 use Rattle.server_run.specs.declared.entry.Entry.{Entry}
 use Rattle.std.specs.Prelude.{sum}
 use Rattle.std.specs.Global.{Vec}
-
 use Rattle.server_core.specs.Core.{Core, held}
 use Rattle.server_core.specs.declared.event.Event.{Event}
-use Rattle.server_core.specs.declared.event.Event.TheVariants.{Notice, Back as BackOf}
 use Rattle.server_acceptor.specs.Logging.{Logs}
 use Rattle.server_acceptor.proofs.LogSteps.{logs_none, logs_trans}
 use Rattle.server_run.proofs.Progress.{adds_none}
@@ -28,20 +26,17 @@ use Rattle.server_jobs.specs.Cards.{Card, of_entry, of_note}
 use Rattle.server_acceptor.specs.Carrying.{came_back}
 use Rattle.server_acceptor.specs.Rings.{ring_out}
 use Rattle.server_acceptor.specs.Accepting.{EndsByFault, HasTold, IsShort, Receives, is_back, received_at, refused, refused_by}
-use Rattle.server_acceptor.specs.Acceptors.{events_of, workers_of}
+use Rattle.server_acceptor.specs.Acceptors.{events_of}
 use Rattle.server_acceptor.specs.Handing.{known_at, AllReturn, Hands}
 use Rattle.server_acceptor.specs.Notes.{count_back}
 use Rattle.server_acceptor.specs.declared.acceptor.Acceptor.{Acceptor}
 use Rattle.server_jobs.specs.declared.note.Note.{Note}
-use Rattle.server_jobs.specs.declared.note.Note.TheVariants.{Ready, Back, Faulted}
+use Rattle.server_jobs.specs.declared.note.Note.TheVariants.{Back}
 
 -- ---- what was received, one part after the other
 module _ {L : Type 0} where
   pub receives_none : (a : Acceptor L) (w : ℕ) → Receives a a w
   receives_none a w = record { more = []; came = sym (append-nil (received_at a.notes.items w)) }
-
-  pub receives_same : (a b : Acceptor L) (w : ℕ) → b.notes ≡ a.notes → Receives a b w
-  receives_same a b w same = record { more = []; came = ap (λ v. received_at v.items w) same ∙ sym (append-nil (received_at a.notes.items w)) }
 
   pub receives_trans : (a b c : Acceptor L) (w : ℕ) → Receives a b w → Receives b c w → Receives a c w
   receives_trans a b c w p q = record {
@@ -142,8 +137,12 @@ module _ {L D : Type 0} (taken : D → Option (List (Entry L))) (count served : 
 -- ---- one ring was looked at
 module _ {L A P : Type 0} (ps : List (Consumer (Note L) A P)) (w : ℕ) (p q : Consumer (Note L) A P) (inside : w < length ps) (is : p ≡ get_or ps w p) (same : received q ≡ received p) where
   pub looked_came : (identity : L → Identity) (h : Card → ℕ) → came_back identity h (set ps w q) ≡ came_back identity h ps + 0
-  looked_came identity h = omega (arith, sum_by-set (λ c. sum_by (of_note identity h) (received c)) ps w q p inside,
-      ap (λ c. sum_by (of_note identity h) (received c)) is, ap (sum_by (of_note identity h)) same)
+  looked_came identity h = omega (
+    arith,
+    sum_by-set (λ c. sum_by (of_note identity h) (received c)) ps w q p inside,
+    ap (λ c. sum_by (of_note identity h) (received c)) is,
+    ap (sum_by (of_note identity h)) same,
+  )
 
   pub looked_rings : SameConsumer p q → map ring_out (set ps w q) ≡ map ring_out ps
   looked_rings ends = map-set_same ring_out ps w q p ((λ i. (ends.0.0 i, (ends.0.1 i, (ends.0.2 i, ends.0.3 i)))) ∙ ap ring_out is)
@@ -155,11 +154,11 @@ module _ {L A P : Type 0} (ps : List (Consumer (Note L) A P)) (w : ℕ) (p q : C
 
   pub looked_kept : (n : Note L) → Any (λ c. Contains (received c) n) ps → Any (λ c. Contains (received c) n) (set ps w q)
   looked_kept n (k, c, below, at, has) = elim (cases_eq k w) [
-      | inl here ↦
-          let that : c ≡ p = sym at ∙ ap (λ i. get_or ps i c) here ∙ any_d ps w c p inside ∙ sym is in
-          any-set (λ r. Contains (received r) n) ps w q inside (subst (λ ns. Contains ns n) (sym same) (subst (λ r. Contains (received r) n) that has))
-      | inr differ ↦ (k, c, omega (arith, length-set ps w q, below), get_or-set_other ps w k q c differ ∙ at, has)
-    ]
+    | inl here ↦
+        let that : c ≡ p = sym at ∙ ap (λ i. get_or ps i c) here ∙ any_d ps w c p inside ∙ sym is in
+        any-set (λ r. Contains (received r) n) ps w q inside (subst (λ ns. Contains ns n) (sym same) (subst (λ r. Contains (received r) n) that has))
+    | inr differ ↦ (k, c, omega (arith, length-set ps w q, below), get_or-set_other ps w k q c differ ∙ at, has)
+  ]
 
   others : (xs : List (Consumer (Note L) A P)) (w v : ℕ) → v ≢ w → slice_get (set xs w q) v ≡ slice_get xs v
   others [] w v differ = refl
@@ -170,19 +169,19 @@ module _ {L A P : Type 0} (ps : List (Consumer (Note L) A P)) (w : ℕ) (p q : C
 
   pub looked_balance : (identity : L → Identity) (out : List ℕ) (v : ℕ) → count_back identity (set ps w q) v + slice_index out v ≡ count_back identity ps v + slice_index out v
   looked_balance identity out v = elim (cases_eq v w) [
-      | inl here ↦ rw here (ap (λ m. m + slice_index out w)
-          (ap (λ o. option_map_or (λ c. sum_by (of_note identity (λ x. 1)) (received c)) o 0) (slice_get-get_or (set ps w q) w q (omega (arith, length-set ps w q)) ∙ ap Some (get_or-set_same ps w q q inside))
-            ∙ ap (sum_by (of_note identity (λ x. 1))) same
-            ∙ sym (ap (λ o. option_map_or (λ c. sum_by (of_note identity (λ x. 1)) (received c)) o 0) (slice_get-get_or ps w p inside ∙ ap Some (sym is)))))
-      | inr differ ↦ ap (λ m. m + slice_index out v) (ap (λ o. option_map_or (λ c. sum_by (of_note identity (λ x. 1)) (received c)) o 0) (others ps w v differ))
-    ]
+    | inl here ↦ rw here (ap (λ m. m + slice_index out w)
+        (ap (λ o. option_map_or (λ c. sum_by (of_note identity (λ x. 1)) (received c)) o 0) (slice_get-get_or (set ps w q) w q (omega (arith, length-set ps w q)) ∙ ap Some (get_or-set_same ps w q q inside))
+        ∙ ap (sum_by (of_note identity (λ x. 1))) same
+        ∙ sym (ap (λ o. option_map_or (λ c. sum_by (of_note identity (λ x. 1)) (received c)) o 0) (slice_get-get_or ps w p inside ∙ ap Some (sym is)))))
+    | inr differ ↦ ap (λ m. m + slice_index out v) (ap (λ o. option_map_or (λ c. sum_by (of_note identity (λ x. 1)) (received c)) o 0) (others ps w v differ))
+  ]
 
 pub fewer_known : {L A P : Type 0} (ns ps : List (Consumer (Note L) A P)) (w : ℕ) (p q : Consumer (Note L) A P) (note : Note L) → ns ≡ set ps w q → w < length ps → p ≡ get_or ps w p
     → known_items p ≡ note ∷ known_items q → known_at ns w < known_at ps w
 fewer_known ns ps w p q note now inside is known =
     let before : known_at ps w ≡ length (known_items p) = ap (λ o. option_map_or (λ c. length (known_items c)) o 0) (slice_get-get_or ps w p inside ∙ ap Some (sym is)) in
     let after : known_at ns w ≡ length (known_items q) = ap (λ xs. known_at xs w) now ∙ ap (λ o. option_map_or (λ c. length (known_items c)) o 0)
-        (slice_get-get_or (set ps w q) w q (omega (arith, length-set ps w q)) ∙ ap Some (get_or-set_same ps w q q inside)) in
+    (slice_get-get_or (set ps w q) w q (omega (arith, length-set ps w q)) ∙ ap Some (get_or-set_same ps w q q inside)) in
     omega (arith, before, after, ap (λ (xs : List (Note _)). length xs) known)
 
 pub logs_same : (s t : Core) (xs ys : Vec Event) → t ≡ s → ys ≡ xs → Logs s t xs.items ys.items
@@ -204,9 +203,9 @@ refused_returns : (full : Option (List ℕ)) (events : List Event) → AllReturn
 refused_returns full [] all = refl
 refused_returns None (e ∷ events) all = refused_returns None events all.1
 refused_returns (Some full) (e ∷ events) all = elim all.0 [
-    | inl back ↦ rw back.1 (refused_returns (Some full) events all.1)
-    | inr notice ↦ rw notice.1 (refused_returns (Some full) events all.1)
-  ]
+  | inl back ↦ rw back.1 (refused_returns (Some full) events all.1)
+  | inr notice ↦ rw notice.1 (refused_returns (Some full) events all.1)
+]
 
 pub refused_append : (full : Option (List ℕ)) (xs ys : List Event) → refused full (xs ++ ys) ≡ refused (refused full xs) ys
 refused_append full [] ys = refl
@@ -230,16 +229,16 @@ told_or_short a w (inr short) = inr (omega (arith, short, a.events.ok.0))
 pub told_up_to : {L D : Type 0} (identity : L → Identity) (taken : D → Option (List (Entry L))) (count served : D → ℕ) (a b : Acceptor L) (d e : D) (w : ℕ) → Hands identity taken count served a b d e
     → ((v : ℕ) → v ≢ w → HasTold a v → HasTold b v) → HasTold b w ⊎ IsShort b → ((v : ℕ) → v < w → HasTold a v ⊎ IsShort a) → (v : ℕ) → v < w + 1 → HasTold b v ⊎ IsShort b
 told_up_to identity taken count served a b d e w hands others this before v below = elim (cases_eq v w) [
-    | inl same ↦ rw same this
-    | inr differ ↦ elim (before v (omega (arith, below, differ))) [
-      | inl told ↦ inl (others v differ told)
-      | inr short ↦ inr (short_still identity taken count served a b d e hands short)
-    ]
+  | inl same ↦ rw same this
+  | inr differ ↦ elim (before v (omega (arith, below, differ))) [
+    | inl told ↦ inl (others v differ told)
+    | inr short ↦ inr (short_still identity taken count served a b d e hands short)
   ]
+]
 
 -- beyond them is none
 pub told_all : {L : Type 0} (a : Acceptor L) (n : ℕ) → length a.notes.items ≤ n → ((v : ℕ) → v < n → HasTold a v ⊎ IsShort a) → (v : ℕ) → HasTold a v ⊎ IsShort a
 told_all a n is before v = elim (cases_lt v n) [
-    | inl below ↦ before v below
-    | inr beyond ↦ inl (rw (slice_get_past a.notes.items v (omega (arith, is, beyond))) tt)
-  ]
+  | inl below ↦ before v below
+  | inr beyond ↦ inl (rw (slice_get_past a.notes.items v (omega (arith, is, beyond))) tt)
+]

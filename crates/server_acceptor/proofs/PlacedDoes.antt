@@ -1,16 +1,15 @@
 -- What the acceptor did where it put the connection that waits on a ring, or tried to.
-use Rattle.std.proofs.Common.{◌≡◌, ◌≢◌, ◌^◌, ◌<◌, ◌≤◌, ◌⊎◌, ◌++◌, ◌∷◌, [], ℕ, zero, suc, ◌+◌, ◌*◌, Bool, true, false, true≢false, cond, List, length, map, Contains, Option, Some, None, IfSome, refl, sym, ◌∙◌, ap, ap₂, arith, subst, inl, inr, append-nil, append_assoc, length-append, get_or-set_same, get_or-set_other}
-use Rattle.std.specs.Prelude.{◌==◌, count_by, is_some, nat_eq, slice_get, slice_index, slice_index_or, slice_set, sum}
+use Rattle.std.proofs.Common.{◌≡◌, ◌≢◌, ◌^◌, ◌<◌, ◌≤◌, ◌⊎◌, ◌++◌, ◌∷◌, [], ℕ, ◌+◌, Bool, true, false, true≢false, cond, List, length, map, Contains, Option, Some, None, IfSome, refl, sym, ◌∙◌, ap, arith, subst, inl, inr, append-nil, length-append, get_or-set_same, get_or-set_other}
+use Rattle.std.specs.Prelude.{◌==◌, count_by, is_some, nat_eq, slice_get, slice_index, slice_index_or, sum}
 use Rattle.std.specs.List.{list_all, IsDistinct}
 use Rattle.std.specs.Option.{option_map}
-use Rattle.std.specs.FinSet as set
 use Rattle.std.proofs.Math.ListN.{length-set}
 use Rattle.std.proofs.lemmas.Bool.{cases_eq}
 use Rattle.std.proofs.lemmas.Bool.Decides.{nat_tests}
 use Rattle.std.proofs.lemmas.List.{append_cancel_left}
 use Rattle.std.proofs.lemmas.List.Sums.{sum_by-append}
 use Rattle.std.proofs.lemmas.List.Elements.{Contains-append_left, Contains-append_right, Contains-push}
-use Rattle.rtrb.specs.Ring.{known_items, received, sent}
+use Rattle.rtrb.specs.Ring.{known_items, received}
 use Rattle.service_core.specs.Link.{Identity}
 use Rattle.server_core.specs.Core.{Core, held, in_order, step}
 use Rattle.server_core.specs.Runs.{after_all}
@@ -22,12 +21,12 @@ use Rattle.server_run.proofs.Progress.{adds_none}
 use Rattle.server_jobs.specs.declared.note.Note.TheVariants.{Ready}
 use Rattle.server_jobs.specs.declared.waiting.Waiting.{Waiting as IsWaiting}
 use Rattle.server_acceptor.specs.Accepting.{AsksFrom, Does, HasTaken, HasTold, IsRefused, IsShort, Proceeds, is_back, is_failed, is_got, is_sent, once_more, received_at, refused, refused_by}
-use Rattle.server_acceptor.specs.Acceptors.{events_of, out_of, workers_of}
+use Rattle.server_acceptor.specs.Acceptors.{events_of, out_of}
 use Rattle.server_acceptor.specs.Carrying.{Carries}
 use Rattle.server_acceptor.specs.Handing.{Hands}
 use Rattle.server_acceptor.specs.Logging.{Logs}
 use Rattle.server_acceptor.specs.Notes.{IsBackFirst, count_back}
-use Rattle.server_acceptor.specs.Placing.{parcel_of, refusals, IsPlaced, KeepsSent, Stays}
+use Rattle.server_acceptor.specs.Placing.{parcel_of, refusals, IsPlaced, Stays}
 use Rattle.server_acceptor.specs.Rings.{count_put, ring_in, ring_out}
 use Rattle.server_acceptor.specs.declared.placed.Placed.{Placed}
 use Rattle.server_acceptor.specs.declared.placed.Placed.TheVariants.{Sent, Waiting, Nothing}
@@ -60,11 +59,11 @@ failures_refusals (w ∷ full) s = failures_refusals full (step (step s (RingFul
 contains_refusals : (full : List ℕ) (w : ℕ) → in_order full w ≡ true → Contains (refusals full) (RingFull w)
 contains_refusals [] w has = absurd (true≢false (sym has))
 contains_refusals (x ∷ full) w has = elim (x == w) as (λ b. (x == w) ≡ b → Contains (refusals (x ∷ full)) (RingFull w)) [
-    | true ↦ λ here.
-        let same : x ≡ w = grind (arith, nat_tests) in
-        subst (λ v. Contains (refusals (x ∷ full)) (RingFull v)) same (Contains-append_left (RingFull x ∷ []) (Notice x ∷ refusals full) (RingFull x) (Contains-push [] (RingFull x)))
-    | false ↦ λ other. Contains-append_right (RingFull x ∷ Notice x ∷ []) (refusals full) (RingFull w) (contains_refusals full w (or_true (x == w) (in_order full w) has other))
-  ] refl
+  | true ↦ λ here.
+      let same : x ≡ w = grind (arith, nat_tests) in
+      subst (λ v. Contains (refusals (x ∷ full)) (RingFull v)) same (Contains-append_left (RingFull x ∷ []) (Notice x ∷ refusals full) (RingFull x) (Contains-push [] (RingFull x)))
+  | false ↦ λ other. Contains-append_right (RingFull x ∷ Notice x ∷ []) (refusals full) (RingFull w) (contains_refusals full w (or_true (x == w) (in_order full w) has other))
+] refl
 
 -- none of them refused twice
 refused_all : (earlier full : List ℕ) → ((v : ℕ) → times v earlier + times v full ≤ 1) → (all : List ℕ) × (refused (Some earlier) (refusals full) ≡ Some all)
@@ -118,8 +117,16 @@ module _ {L : Type 0} (identity : L → Identity) (a b : Acceptor L) where
             elim (cases_eq v w) [
               | inl same ↦
                   let here : nat_eq w v ≡ true = grind (arith, nat_tests) in
-                  omega (arith, count, more, ap {B = ℕ} (λ b. cond b 1 0) here, ap (λ u. slice_index a.core.out u) same, ap (λ u. slice_index b.core.out u) same, ap (λ os. slice_index os w) p.out,
-                    get_or-set_same a.core.out w (slice_index a.core.out w + 1) 0 within)
+                  omega (
+                    arith,
+                    count,
+                    more,
+                    ap {B = ℕ} (λ b. cond b 1 0) here,
+                    ap (λ u. slice_index a.core.out u) same,
+                    ap (λ u. slice_index b.core.out u) same,
+                    ap (λ os. slice_index os w) p.out,
+                    get_or-set_same a.core.out w (slice_index a.core.out w + 1) 0 within,
+                  )
               | inr differ ↦
                   let elsewhere : nat_eq w v ≡ false = grind (arith, nat_tests) in
                   omega (arith, count, more, ap {B = ℕ} (λ b. cond b 1 0) elsewhere, ap (λ os. slice_index os v) p.out, get_or-set_other a.core.out w v (slice_index a.core.out w + 1) 0 differ)
@@ -235,16 +242,16 @@ module _ {L : Type 0} (a b : Acceptor L) where
   refused_sent w p none =
       let e = refused_once p.full p.refused.once in
       ap (refused (Some [])) p.refused.events ∙ refused_append (Some []) a.events.items (refusals p.full ++ SentTo w p.remains ∷ [])
-        ∙ ap (λ o. refused o (refusals p.full ++ SentTo w p.remains ∷ [])) none ∙ refused_append (Some []) (refusals p.full) (SentTo w p.remains ∷ [])
-        ∙ ap (λ o. refused o (SentTo w p.remains ∷ [])) e.1
+      ∙ ap (λ o. refused o (refusals p.full ++ SentTo w p.remains ∷ [])) none ∙ refused_append (Some []) (refusals p.full) (SentTo w p.remains ∷ [])
+      ∙ ap (λ o. refused o (SentTo w p.remains ∷ [])) e.1
 
   -- none refused twice where it waits still
   pub refused_waits : IsPlaced a b Waiting → refused (Some []) (events_of a) ≡ Some [] → is_some (refused (Some []) (events_of b)) ≡ true
   refused_waits p none =
       let e = refused_once p.full p.refused.once in
       ap is_some (ap (refused (Some [])) p.refused.events ∙ refused_append (Some []) a.events.items (refusals p.full ++ [])
-        ∙ ap (λ o. refused o (refusals p.full ++ [])) none ∙ refused_append (Some []) (refusals p.full) []
-        ∙ e.1)
+      ∙ ap (λ o. refused o (refusals p.full ++ [])) none ∙ refused_append (Some []) (refusals p.full) []
+      ∙ e.1)
 
   -- each free worker refused it
   pub refused_by_all : IsPlaced a b Waiting → IsRefused b
@@ -271,19 +278,19 @@ none_asked ls a b first failed over count = record {
 module _ {L : Type 0} (identity : L → Identity) (a b : Acceptor L) (logs : Logs a.core b.core a.events.items b.events.items) where
   pub has_taken_waits : Stays a b → IsPlaced a b Waiting → HasTaken a → HasTaken b
   has_taken_waits s p told w = elim (told w) [
-      | inl has ↦ inl (told_kept a b w s.notes (ap (λ os. slice_index os w) p.out) has)
-      | inr short ↦ inr (placed_short identity a b logs Waiting p short)
-    ]
+    | inl has ↦ inl (told_kept a b w s.notes (ap (λ os. slice_index os w) p.out) has)
+    | inr short ↦ inr (placed_short identity a b logs Waiting p short)
+  ]
 
   pub has_taken_sent : {D : Type 0} (taken : D → Option (List (Entry L))) (count served : D → ℕ) (c : Acceptor L) (d e : D) (w : ℕ) → Stays a b → IsPlaced a b (Sent w) → Hands identity taken count served b c d e
       → ((v : ℕ) → v ≢ w → HasTold b v → HasTold c v) → HasTold c w ⊎ IsShort c → HasTaken a → HasTaken c
   has_taken_sent taken count served c d e w s p h others this told v = elim (cases_eq v w) [
-      | inl same ↦ rw same this
-      | inr differ ↦ elim (told v) [
-        | inl has ↦ inl (others v differ (told_others a b w v s.notes p differ has))
-        | inr short ↦ inr (short_still identity taken count served b c d e h (placed_short identity a b logs (Sent w) p short))
-      ]
+    | inl same ↦ rw same this
+    | inr differ ↦ elim (told v) [
+      | inl has ↦ inl (others v differ (told_others a b w v s.notes p differ has))
+      | inr short ↦ inr (short_still identity taken count served b c d e h (placed_short identity a b logs (Sent w) p short))
     ]
+  ]
 
   pub asked_none : {Li D : Type 0} (ls : List Li) (taken : D → Option (List (Entry L))) (count served : D → ℕ) (c : Acceptor L) (d e : D) (w : ℕ) → Stays a b → IsPlaced a b (Sent w) → Hands identity taken count served b c d e
       → AsksFrom ls ls a c 0 0

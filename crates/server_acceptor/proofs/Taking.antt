@@ -1,5 +1,5 @@
 -- One ring from which notes were taken, seen in the list of the rings of all workers.
-use Rattle.std.proofs.Common.{◌≡◌, ◌≢◌, ◌⊎◌, ℕ, zero, suc, ◌+◌, ◌-◌, ◌<◌, ◌≤◌, Bool, true, false, true≢false, cond, List, [], ◌∷◌, ◌++◌, length, get_or, set, sum, sum_by, Contains, Option, Some, None, IfSome, refl, sym, ap, subst, ◌∙◌, arith, inl, inr, get_or-set_same, get_or-set_other}
+use Rattle.std.proofs.Common.{◌≡◌, ◌≢◌, ◌⊎◌, ℕ, zero, suc, ◌+◌, ◌-◌, ◌<◌, Bool, true, false, true≢false, cond, List, [], ◌∷◌, ◌++◌, length, get_or, set, sum_by, Contains, Option, Some, IfSome, refl, sym, ap, subst, ◌∙◌, arith, inl, inr, get_or-set_same, get_or-set_other}
 use Rattle.std.specs.Prelude.{nat_eq, slice_get, slice_index, slice_index_or, slice_set}
 use Rattle.std.specs.List.{list_all}
 use Rattle.std.specs.Option.{option_map_or}
@@ -40,9 +40,9 @@ all_marked (false ∷ xs) w all = absurd (true≢false (sym all))
 
 pub not_all_before : (xs : List Bool) (w : ℕ) → list_all (λ r. r) (set xs w true) ≡ false → list_all (λ r. r) xs ≡ false
 not_all_before xs w less = elim (list_all (λ r. r) xs) as (λ b. list_all (λ r. r) xs ≡ b → b ≡ false) [
-    | true ↦ λ all. absurd (true≢false (sym (all_marked xs w all) ∙ less))
-    | false ↦ λ some. refl
-  ] refl
+  | true ↦ λ all. absurd (true≢false (sym (all_marked xs w all) ∙ less))
+  | false ↦ λ some. refl
+] refl
 
 -- one note alone
 pub one_note : {X : Type 0} (x y : X) → x ≡ y → Contains (x ∷ []) y
@@ -77,19 +77,19 @@ module _ {L A P : Type 0} (ns ps : List (Consumer (Note L) A P)) (w : ℕ) (p q 
 
   pub received_more : (v : ℕ) → (xs : List (Note L)) × (received_at ns v ≡ received_at ps v ++ xs)
   received_more v = elim (cases_eq v w) [
-      | inl same ↦ rw same (more, at_it)
-      | inr differ ↦ ([], ap (λ o. option_map_or (λ c. received c) o []) (elsewhere v differ) ∙ sym (append-nil (received_at ps v)))
-    ]
+    | inl same ↦ rw same (more, at_it)
+    | inr differ ↦ ([], ap (λ o. option_map_or (λ c. received c) o []) (elsewhere v differ) ∙ sym (append-nil (received_at ps v)))
+  ]
 
   pub received_this : (n : Note L) → Contains more n → (xs : List (Note L)) × ((received_at ns w ≡ received_at ps w ++ xs) × Contains xs n)
   received_this n has = (more, (at_it, has))
 
   pub has_still : (n : Note L) (v : ℕ) → IfSome (slice_get ps v) (λ c. Contains (received c) n) → IfSome (slice_get ns v) (λ c. Contains (received c) n)
   has_still n v before = elim (cases_eq v w) [
-      | inl same ↦ rw same (where_some (λ c. Contains (received c) n) (slice_get ns w) q at_after (subst (λ xs. Contains xs n) (sym came) (Contains-append_left (received p) more n
-          (of_some (λ c. Contains (received c) n) (slice_get ps w) p at_before (subst (λ u. IfSome (slice_get ps u) (λ c. Contains (received c) n)) same before)))))
-      | inr differ ↦ subst (λ o. IfSome o (λ c. Contains (received c) n)) (sym (elsewhere v differ)) before
-    ]
+    | inl same ↦ rw same (where_some (λ c. Contains (received c) n) (slice_get ns w) q at_after (subst (λ xs. Contains xs n) (sym came) (Contains-append_left (received p) more n
+        (of_some (λ c. Contains (received c) n) (slice_get ps w) p at_before (subst (λ u. IfSome (slice_get ps u) (λ c. Contains (received c) n)) same before)))))
+    | inr differ ↦ subst (λ o. IfSome o (λ c. Contains (received c) n)) (sym (elsewhere v differ)) before
+  ]
 
   pub has_now : (n : Note L) → Contains more n → IfSome (slice_get ns w) (λ c. Contains (received c) n)
   has_now n has = where_some (λ c. Contains (received c) n) (slice_get ns w) q at_after (subst (λ xs. Contains xs n) (sym came) (Contains-append_right (received p) more n has))
@@ -98,9 +98,9 @@ module _ {L A P : Type 0} (ns ps : List (Consumer (Note L) A P)) (w : ℕ) (p q 
   pub marked_now : (marks : List Bool) (n : Note L) → Contains more n → ((v : ℕ) → slice_index_or marks v false ≡ true → IfSome (slice_get ps v) (λ c. Contains (received c) n))
       → (v : ℕ) → slice_index_or (set marks w true) v false ≡ true → IfSome (slice_get ns v) (λ c. Contains (received c) n)
   marked_now marks n has before v on = elim (cases_eq v w) [
-      | inl same ↦ rw same (has_now n has)
-      | inr differ ↦ has_still n v (before v (sym (get_or-set_other marks w v true false differ) ∙ on))
-    ]
+    | inl same ↦ rw same (has_now n has)
+    | inr differ ↦ has_still n v (before v (sym (get_or-set_other marks w v true false differ) ∙ on))
+  ]
 
   -- what is known of the others stays
   pub told_still : (before after : List ℕ) (v : ℕ) → slice_index after v ≡ slice_index before v → v ≢ w
@@ -111,11 +111,16 @@ module _ {L A P : Type 0} (ns ps : List (Consumer (Note L) A P)) (w : ℕ) (p q 
 
   pub backs_more : (identity : L → Identity) (v : ℕ) → count_back identity ns v ≡ count_back identity ps v + cond (nat_eq w v) (sum_by (of_note identity (λ x. 1)) more) 0
   backs_more identity v = elim (cases_eq v w) [
-      | inl same ↦
-          let e : nat_eq w w ≡ true = grind (arith, nat_tests) in
-          rw (same, e) (omega (arith, ap (λ o. option_map_or (λ c. sum_by (of_note identity (λ x. 1)) (received c)) o 0) at_after, ap (λ o. option_map_or (λ c. sum_by (of_note identity (λ x. 1)) (received c)) o 0) at_before,
-            ap (sum_by (of_note identity (λ x. 1))) came, sum_by-append (of_note identity (λ x. 1)) (received p) more))
-      | inr differ ↦
-          let e : nat_eq w v ≡ false = grind (arith, nat_tests) in
-          rw e (omega (arith, ap (λ o. option_map_or (λ c. sum_by (of_note identity (λ x. 1)) (received c)) o 0) (elsewhere v differ)))
-    ]
+    | inl same ↦
+        let e : nat_eq w w ≡ true = grind (arith, nat_tests) in
+        rw (same, e) (omega (
+          arith,
+          ap (λ o. option_map_or (λ c. sum_by (of_note identity (λ x. 1)) (received c)) o 0) at_after,
+          ap (λ o. option_map_or (λ c. sum_by (of_note identity (λ x. 1)) (received c)) o 0) at_before,
+          ap (sum_by (of_note identity (λ x. 1))) came,
+          sum_by-append (of_note identity (λ x. 1)) (received p) more,
+        ))
+    | inr differ ↦
+        let e : nat_eq w v ≡ false = grind (arith, nat_tests) in
+        rw e (omega (arith, ap (λ o. option_map_or (λ c. sum_by (of_note identity (λ x. 1)) (received c)) o 0) (elsewhere v differ)))
+  ]

@@ -2,12 +2,15 @@
 use Rattle.std.proofs.Common.{◌≡◌, ◌^◌, ◌<◌, ◌≤◌, ◌⊎◌, ◌++◌, ◌∷◌, [], ℕ, ◌+◌, ◌*◌, Bool, true, false, cond, List, length, map, All, Any, Contains, Option, Some, None, IfSome, refl, sym, ◌∙◌, ap, ap₂, arith, subst, inl, inr}
 use Rattle.std.specs.List.{list_all}
 use Rattle.std.proofs.lemmas.Bool.Decides.{nat_tests}
-use Rattle.rtrb.specs.Ring.{received, sent}
+use Rattle.std.specs.FinSet as set
+use Rattle.rtrb.specs.Ring.{known_items, received, sent}
+use Rattle.server_core.specs.declared.event.Event.TheVariants.{RingFull}
+use Rattle.server_acceptor.specs.declared.accept_turn.AcceptTurn.TheVariants.{WorkerEnded as TurnEnded}
 use Rattle.server_core.specs.Runs.{AllAllowed, after_all}
 use Rattle.server_run.specs.Delivery.{once_below}
 use Rattle.server_jobs.specs.declared.note.Note.TheVariants.{Back, Ready}
 use Rattle.server_acceptor.specs.Carrying.{Carries, IsInPlace, ParcelIsInPlace, came_back, each, has_place, has_serial, in_waiting, put}
-use Rattle.server_acceptor.specs.Notes.{count_back}
+use Rattle.server_acceptor.specs.Notes.{IsBackFirst, count_back}
 use Rattle.server_acceptor.specs.Logging.{AllOfUse}
 use Rattle.server_acceptor.specs.Rings.{count_put, ring_in, ring_out}
 use Rattle.server_acceptor.specs.Stopping.{StopsOnly}
@@ -15,16 +18,13 @@ use Rattle.server_acceptor.specs.declared.step.Step.{Step}
 use Rattle.server_acceptor.specs.declared.step.Step.TheVariants.{On, Settled, Halted, WorkerEnded}
 use Rattle.server_acceptor.proofs.DoesSteps.{does_trans}
 use Rattle.std.specs.Prelude.{sum, nat_lt, IsSomeAnd, count_by, is_some, slice_get, slice_index, slice_index_or}
-use Rattle.std.proofs.lemmas.List.Sums.{sum_by-append}
 use Rattle.service_core.specs.Link.{Identity}
 use Rattle.server_run.specs.Delivery.{given_at}
 use Rattle.server_run.specs.declared.entry.Entry.{Entry}
 use Rattle.server_core.specs.declared.event.Event.{Event}
 use Rattle.server_acceptor.specs.Accepting.{AcceptGoesOn, AsksInTurn, Does, EndsByFault, HasHalted, HasTaken, HasTold, IsAskedOut, IsOver, IsShort, LacksStop, MayAsk, OnceEach, Proceeds, TellsEnds, is_back, is_failed, is_sent, received_at, refused, turn_of}
 use Rattle.server_acceptor.specs.Acceptors.{all_ready, core_of, events_of, failed_of, first_of, lacks_room_of, listeners_of, places_of, waiting_of, workers_of}
-use Rattle.server_acceptor.specs.Handing.{Hands}
 use Rattle.server_acceptor.specs.declared.acceptor.Acceptor.{Acceptor}
-use Rattle.server_acceptor.proofs.HandsDoes.{none_failed}
 
 -- ---- what the events and the first listener say nothing of
 pub record SameBut {L : Type 0} (a b : Acceptor L) : Type 0 where
@@ -196,11 +196,6 @@ module _ {Li L : Type 0} (given waits skips : Li → ℕ) (l m : List Li) (a : A
       by_step Halted is long = halted_goes_on long (halted is) stops
       by_step (WorkerEnded w) is long = absurd (ended w is)
 
--- what comes back tells of no failure
-module _ {L D : Type 0} (identity : L → Identity) (taken : D → Option (List (Entry L))) (count served : D → ℕ) (a b : Acceptor L) (old new : D) where
-  pub hands_failed : Hands identity taken count served a b old new → (t : ℕ) → count_by (is_failed t) (events_of b) ≡ count_by (is_failed t) (events_of a)
-  hands_failed h t = omega (arith, ap (λ es. count_by (is_failed t) es) h.logs.appended, sum_by-append (λ e. cond (is_failed t e) 1 0) (events_of a) h.logs.more, none_failed h.logs.more t h.returns)
-
 -- in a turn that began with no event a listener failed at most once
 pub once_each : (xs ys zs : List Event) → xs ≡ [] → ((t : ℕ) → count_by (is_failed t) ys ≡ count_by (is_failed t) xs) → ((t : ℕ) → count_by (is_failed t) zs ≤ count_by (is_failed t) ys + 1)
     → is_some (refused (Some []) zs) ≡ true → OnceEach zs
@@ -232,23 +227,23 @@ module _ {Li L : Type 0} (given waits skips : Li → ℕ) where
   pub given_kept : (ls : List Li) (a b : Acceptor L) → places_of b ≡ places_of a → ((t : ℕ) → slice_index_or (places_of a) t 0 ≤ given_at given ls t) → (t : ℕ) → slice_index_or (places_of b) t 0 ≤ given_at given ls t
   given_kept ls a b same below t = subst (λ xs. slice_index_or xs t 0 ≤ given_at given ls t) (sym same) (below t)
 
+  pub asked_out_same : (ls ms : List Li) (c c2 : Acceptor L) (now t : ℕ) → core_of c2 ≡ core_of c → failed_of c2 ≡ failed_of c → IsAskedOut given waits skips ls ms c now t → IsAskedOut given waits skips ls ms c2 now t
+  asked_out_same ls ms c c2 now t core failed (inl over) = inl (ap (λ k. slice_index_or k.ended t true) core ∙ over)
+  asked_out_same ls ms c c2 now t core failed (inr (inl waited)) = inr (inl waited)
+  asked_out_same ls ms c c2 now t core failed (inr (inr (inl enough))) = inr (inr (inl enough))
+  asked_out_same ls ms c c2 now t core failed (inr (inr (inr off))) = inr (inr (inr (subst (λ xs. IsSomeAnd (slice_index_or xs t None) (λ failed. now < failed + 500)) (sym failed) off)))
+
   -- the same of an acceptor that differs in what this says nothing of
-  pub in_turn_same : (ls ms : List Li) (a a2 c c2 : Acceptor L) (now : ℕ) → first_of a2 ≡ first_of a → failed_of a2 ≡ failed_of a → core_of c2 ≡ core_of c → failed_of c2 ≡ failed_of c
-      → AsksInTurn given waits skips ls ms a c now → AsksInTurn given waits skips ls ms a2 c2 now
-  in_turn_same ls ms a a2 c c2 now first failed core failed_c p = record {
+  pub in_turn_same : (ls ms : List Li) (a a2 c c2 : Acceptor L) (now now2 : ℕ) → now2 ≡ now → first_of a2 ≡ first_of a → failed_of a2 ≡ failed_of a → core_of c2 ≡ core_of c → failed_of c2 ≡ failed_of c
+      → AsksInTurn given waits skips ls ms a c now → AsksInTurn given waits skips ls ms a2 c2 now2
+  in_turn_same ls ms a a2 c c2 now now2 time first failed core failed_c p = subst (λ n. AsksInTurn given waits skips ls ms a2 c2 n) (sym time) (record {
     order = λ t u below under before. elim (p.order t u (subst (λ k. t < length k.ended) core below) (subst (λ k. u < length k.ended) core under)
         (subst (λ f. turn_of f (listeners_of c) t < turn_of f (listeners_of c) u) first (subst (λ k. turn_of (first_of a2) (length k.ended) t < turn_of (first_of a2) (length k.ended) u) core before))) [
       | inl same ↦ inl same
       | inr out ↦ inr (asked_out_same ls ms c c2 now t core failed_c out)
     ];
     rests = λ t off. p.rests t (subst (λ xs. IsSomeAnd (slice_index_or xs t None) (λ failed. now < failed + 500)) failed off);
-  }
-    where
-      asked_out_same : (ls ms : List Li) (c c2 : Acceptor L) (now t : ℕ) → core_of c2 ≡ core_of c → failed_of c2 ≡ failed_of c → IsAskedOut given waits skips ls ms c now t → IsAskedOut given waits skips ls ms c2 now t
-      asked_out_same ls ms c c2 now t core failed (inl over) = inl (ap (λ k. slice_index_or k.ended t true) core ∙ over)
-      asked_out_same ls ms c c2 now t core failed (inr (inl waited)) = inr (inl waited)
-      asked_out_same ls ms c c2 now t core failed (inr (inr (inl enough))) = inr (inr (inl enough))
-      asked_out_same ls ms c c2 now t core failed (inr (inr (inr off))) = inr (inr (inr (subst (λ xs. IsSomeAnd (slice_index_or xs t None) (λ failed. now < failed + 500)) (sym failed) off)))
+  })
 
 -- a worker's fault, seen from the turn's start
 pub ends_same : {L : Type 0} (a a2 b b2 : Acceptor L) (w : ℕ) → a2.notes ≡ a.notes → b2.notes ≡ b.notes → EndsByFault a b w → EndsByFault a2 b2 w
@@ -257,3 +252,58 @@ ends_same a a2 b b2 w began came e = record {
   came = ap (λ v. received_at v.items w) came ∙ e.came ∙ ap (λ v. received_at v.items w ++ e.more) (sym began);
   faulted = e.faulted;
 }
+
+-- ---- an acceptor of which what a turn's end asks for is the same
+pub record SeenSame {L : Type 0} (a b : Acceptor L) : Type 0 where
+  pub core : b.core ≡ a.core
+  pub events : b.events ≡ a.events
+  pub notes : b.notes ≡ a.notes
+  pub ready : b.ready ≡ a.ready
+  pub waiting : b.waiting ≡ a.waiting
+  pub failed : b.failed ≡ a.failed
+  pub lacks_room : b.lacks_room ≡ a.lacks_room
+
+module _ {L : Type 0} (a b : Acceptor L) (s : SeenSame a b) where
+  short_same : IsShort a → IsShort b
+  short_same short = omega (arith, short, ap (λ k. length k.out) s.core, ap (λ v. length v.items) s.events)
+
+  told_same : (w : ℕ) → HasTold a w → HasTold b w
+  told_same w told = subst (λ v. IfSome (slice_get v.items w) (λ c. (known_items c ≡ []) ⊎ ((slice_index b.core.out w ≡ 0) × IsBackFirst (known_items c)))) (sym s.notes)
+      (subst (λ k. IfSome (slice_get a.notes.items w) (λ c. (known_items c ≡ []) ⊎ ((slice_index k.out w ≡ 0) × IsBackFirst (known_items c)))) (sym s.core) told)
+
+  taken_same : HasTaken a → HasTaken b
+  taken_same taken w = elim (taken w) [
+      | inl told ↦ inl (told_same w told)
+      | inr short ↦ inr (short_same short)
+    ]
+
+  pub may_same : MayAsk a → MayAsk b
+  may_same may = record {
+    none = s.waiting ∙ may.none;
+    unrefused = ap (λ v. refused (Some []) v.items) s.events ∙ may.unrefused;
+    told = taken_same may.told;
+  }
+
+  pub halted_same : HasHalted a → HasHalted b
+  halted_same halted = record {
+    cause = elim halted.cause [
+      | inl short ↦ inl (short_same short)
+      | inr (inl waits) ↦ inr (inl (ap (λ o. is_some o) s.waiting ∙ waits.0,
+          λ w free. subst (λ v. Contains v.items (RingFull w)) (sym s.events) (waits.1 w (ap (λ k. set.contains k.free w) (sym s.core) ∙ free))))
+      | inr (inr lacks) ↦ inr (inr (s.waiting ∙ lacks.0, s.lacks_room ∙ lacks.1))
+    ];
+    told = taken_same halted.told;
+  }
+
+  pub asked_same : {Li : Type 0} (given waits skips : Li → ℕ) (l m : List Li) (now : ℕ) → (all_ready a ≡ true → lacks_room_of a ≡ false → (t : ℕ) → t < listeners_of a → IsAskedOut given waits skips l m a now t)
+      → all_ready b ≡ true → lacks_room_of b ≡ false → (t : ℕ) → t < listeners_of b → IsAskedOut given waits skips l m b now t
+  asked_same given waits skips l m now asked ready room t below = asked_out_same given waits skips l m a b now t s.core (ap (λ v. v.items) s.failed)
+      (asked (ap (λ v. list_all (λ r. r) v.items) (sym s.ready) ∙ ready) (sym s.lacks_room ∙ room) t (subst (λ k. t < length k.ended) s.core below))
+
+-- the answer of a turn names the worker that its last step named
+pub ended_same : {L : Type 0} (a b : Acceptor L) (v w : ℕ) → TurnEnded v ≡ TurnEnded w → (v < workers_of b) × EndsByFault a b v → (w < workers_of b) × EndsByFault a b w
+ended_same a b v w is e = let same : v ≡ w = cc in subst (λ u. (u < workers_of b) × EndsByFault a b u) same e
+
+-- why a turn goes on, at its answer of the clock
+pub goes_on_at : {Li L : Type 0} (given waits skips : Li → ℕ) (l m : List Li) (a : Acceptor L) (now now2 : ℕ) → now2 ≡ now → IsShort a ⊎ AcceptGoesOn given waits skips l m a now → IsShort a ⊎ AcceptGoesOn given waits skips l m a now2
+goes_on_at given waits skips l m a now now2 time goes = subst (λ n. IsShort a ⊎ AcceptGoesOn given waits skips l m a n) (sym time) goes

@@ -1,11 +1,9 @@
 -- What asking a listener once comes to.
-use Rattle.std.specs.Prelude.{◌≡◌, ◌≢◌, ◌⊎◌, ⊤, ℕ, ◌+◌, ◌<◌, slice_set, ◌++◌, ◌∷◌, [], Bool, true, List, length, Option, Some, None, slice_get, slice_index, slice_index_or, is_some}
+use Rattle.std.specs.Prelude.{◌≡◌, ◌⊎◌, ℕ, ◌+◌, ◌<◌, slice_set, ◌++◌, ◌∷◌, [], Bool, List, length, Some, None, slice_index, slice_index_or}
 use Rattle.service_core.specs.Counts.{Rose}
 use Rattle.server_run.specs.Delivery.{HasEnded, given_at}
-use Rattle.server_core.specs.declared.event.Event.{Event}
 use Rattle.server_core.specs.declared.event.Event.TheVariants.{Got as GotOf, ListenerEnded, ListenerFailed}
 use Rattle.server_acceptor.specs.declared.acceptor.Acceptor.{Acceptor}
-use Rattle.server_jobs.specs.declared.waiting.Waiting.{Waiting}
 use Rattle.server_acceptor.specs.declared.asked.Asked.{Asked}
 use Rattle.server_acceptor.specs.declared.asked.Asked.TheVariants.{Got, NotYet, Skipped, Failed, Ended}
 

@@ -1,5 +1,5 @@
 -- That the acceptor takes back what the workers hand it.
-use Rattle.std.specs.Prelude.{◌≡◌, ◌⊎◌, ◌<◌, ⊤, ℕ, ◌+◌, ◌∷◌, [], List, true, cond, nat_eq, length, map, sum_by, count_by, All, Any, Contains, Option, IfSome, slice_get, slice_index}
+use Rattle.std.specs.Prelude.{◌≡◌, ◌⊎◌, ◌<◌, ⊤, ℕ, ◌+◌, ◌∷◌, [], List, true, cond, nat_eq, length, map, sum_by, count_by, All, Any, Contains, Option, slice_get, slice_index}
 use Rattle.std.specs.Option.{option_map_or}
 use Rattle.rtrb.specs.Ring.{known_items, received}
 use Rattle.rtrb.specs.declared.consumer.Consumer.{Consumer}

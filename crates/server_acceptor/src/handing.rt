@@ -9,8 +9,8 @@ ghost use Rattle.server_acceptor.specs.Placing.{Stays};
 
 use crate::acceptor::Acceptor;
 use crate::logging::log;
-use server_jobs::Note;
 use server_core::Event;
+use server_jobs::Note;
 use server_run::Done;
 use service_core::Link;
 

@@ -7,14 +7,14 @@ ghost use Rattle.server_run.specs.declared.entry.Entry.{Entry};
 ghost use Rattle.server_acceptor.specs.Acceptors.{all_ready};
 ghost use Rattle.server_acceptor.specs.AskingListeners.{AsksOnly, Fails, IsAsked, KeepsWaiting, Leaves, TakesUp};
 ghost use Rattle.server_acceptor.specs.Carrying.{Carries};
-ghost use Rattle.server_acceptor.specs.Listening.{AsksAt, Listens};
+ghost use Rattle.server_acceptor.specs.Listening.{AsksAt, Listens, NeverFall};
 ghost use Rattle.server_acceptor.specs.Logging.{Logs};
 
 use crate::acceptor::Acceptor;
 use crate::asked::Asked;
 use crate::logging::log;
-use server_jobs::Waiting;
 use server_core::Event;
+use server_jobs::Waiting;
 use server_run::{Accepted, Listener};
 use service_core::Link;
 
@@ -23,6 +23,7 @@ fn accept_at<Li: Listener>(listeners: &mut Vec<Li>, t: usize) -> Accepted<Li::Li
     requires inside { t < length listeners.old.items }
     ensures answer { Listens Li.given Li.left Li.waits Li.skips Li.faults Li.ended listeners.old.items listeners.new.items t result }
     ensures faults { given_at Li.faults listeners.old.items t ≤ given_at Li.faults listeners.new.items t }
+    ensures counts { NeverFall Li.waits Li.skips listeners.old.items listeners.new.items t }
 {
     listeners[t].accept()
 }
@@ -95,6 +96,7 @@ impl<L: Link> Acceptor<L> {
         ensures listeners { AsksAt listeners.old.items listeners.new.items t }
         ensures given { slice_index_or self.new.places.items t 0 ≤ given_at Li.given listeners.new.items t }
         ensures faults { given_at Li.faults listeners.old.items t ≤ given_at Li.faults listeners.new.items t }
+        ensures counts { NeverFall Li.waits Li.skips listeners.old.items listeners.new.items t }
         ensures logs { Logs self.old.core self.new.core self.old.events.items self.new.events.items }
         ensures asks { AsksOnly self.old self.new }
         ensures failed { (v : ℕ) → v ≢ t → slice_index_or self.new.failed.items v None ≡ slice_index_or self.old.failed.items v None }

@@ -57,4 +57,5 @@ works_new mg sg g may_stand may_serve may_leave may_ready may_init may_make s ha
   };
   slots = slots;
   made = λ all. absurd (let e : true ≡ false = sym all ∙ made in cc);
+  told = λ is. absurd (let e : true ≡ false = sym is ∙ fresh.told in cc);
 }

@@ -2,6 +2,7 @@ pub mod Accounting
 pub mod AdmitSteps
 pub mod AskSteps
 pub mod BeginSteps
+pub mod LeaveSteps
 pub mod MakeSteps
 pub mod Places
 pub mod PollSteps

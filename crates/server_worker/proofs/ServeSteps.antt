@@ -93,7 +93,7 @@ newly_same n false = refl
 
 module _ {L Fut MFut S : Type 0} (listeners : ℕ) (slots : List (Slot MFut S)) where
   -- that all services stand was told by what is owed, or was told before, or is not told
-  pub turn_ready : {identity : L → Identity} (a b c d e : Connections L Fut) → Takes listeners a b → Admits identity b c → OwesMore identity c d → TellsNoReady d e
+  pub turn_ready : {identity : L → Identity} (a b c d e : Connections L Fut) → Takes listeners a b → Admits identity b c → OwesMore identity Ready c d → TellsNoReady d e
       → (c.told ≡ false → d.told ≡ true → AllMade slots) → TellsReady slots a e
   turn_ready a b c d e takes admits owes none stand = record {
     once = λ f nothing.
@@ -127,7 +127,7 @@ module _ {L Fut MFut S : Type 0} (listeners : ℕ) (slots : List (Slot MFut S)) 
 
 -- a whole turn: what came was taken, those that may were admitted, a note may be owed, and the live ones were polled
 module _ {L Fut : Type 0} (identity : L → Identity) (listeners : ℕ) (a b c d e : Connections L Fut)
-    (accounts : Accounts identity a b) (takes : Takes listeners a b) (admits : Admits identity b c) (owes : OwesMore identity c d) (served : Accounts identity d e) (polls : PollsLive identity d e) where
+    (accounts : Accounts identity a b) (takes : Takes listeners a b) (admits : Admits identity b c) (owes : OwesMore identity Ready c d) (served : Accounts identity d e) (polls : PollsLive identity d e) where
   same_notes : (h : Card → ℕ) → handed identity h d ≡ handed identity h a
   same_notes h =
       let n = ap (λ p. sum_by (of_note identity h) (sent p)) (owes.notes ∙ admits.notes ∙ takes.notes) in

@@ -21,7 +21,7 @@ use Rattle.server_jobs.specs.declared.waiting.Waiting.{Waiting}
 all_map : {X : Type 0} (P Q : X → Type 0) (xs : List X) → ((x : X) → P x → Q x) → All P xs → All Q xs
 all_map P Q xs f all = λ i d inside. f _ (all i d inside)
 
-or_none : (b : Bool) → b ≡ (b || false)
+pub or_none : (b : Bool) → b ≡ (b || false)
 or_none true = refl
 or_none false = refl
 
@@ -29,7 +29,7 @@ or_true : (b : Bool) → true ≡ (b || true)
 or_true true = refl
 or_true false = refl
 
-or_twice : (a b c : Bool) → ((a || b) || c) ≡ (a || (b || c))
+pub or_twice : (a b c : Bool) → ((a || b) || c) ≡ (a || (b || c))
 or_twice true b c = refl
 or_twice false b c = refl
 

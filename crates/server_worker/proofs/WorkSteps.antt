@@ -48,6 +48,7 @@ module _ {L S E I Fut MFut : Type 0} (mg : FutureOf MFut (Result S I)) (sg : Ser
     };
     slots = works.slots;
     made = works.made;
+    told = λ is. made;
   }
 
   -- services were made, and connections were taken
@@ -63,4 +64,5 @@ module _ {L S E I Fut MFut : Type 0} (mg : FutureOf MFut (Result S I)) (sg : Ser
     connections = sound_of_more a b (length s.slots.items) m (length t.slots.items) is many takes works.connections;
     slots = slots;
     made = λ all. all_stay_made s.slots.items t.slots.items many waits (works.made (sym made ∙ all));
+    told = λ is. made ∙ works.told (sym takes.told_ready ∙ is);
   }

@@ -1,6 +1,7 @@
 pub mod Asking
 pub mod Ending
 pub mod Holding
+pub mod Leaving
 pub mod Polled
 pub mod Posted
 pub mod Room

@@ -8,7 +8,6 @@ use Rattle.service_core.specs.Link.{Identity}
 use Rattle.service_core.specs.Shown.{wait_count}
 use Rattle.server_jobs.specs.Cards.{Card, card, of_note, of_parcel, of_waiting}
 use Rattle.server_jobs.specs.declared.note.Note.{Note}
-use Rattle.server_jobs.specs.declared.note.Note.TheVariants.{Ready}
 use Rattle.server_worker.specs.Telling.{WeighsSignals, newly}
 use Rattle.server_worker.specs.declared.connections.Connections.{Connections}
 use Rattle.rtrb.specs.Ring.{received, sent}
@@ -75,10 +74,10 @@ pub record PollsLive {L Fut : Type 0} (identity : L → Identity) (a b : Connect
   -- what ended is handed back, or kept for handing back
   pub told : (h : Card → ℕ) → handed identity h a + sum_by (λ e. h e.0) ended ≤ handed identity h b
 
--- The note that all services stand was added to what is owed, or none.
-pub record OwesMore {L Fut : Type 0} (identity : L → Identity) (a b : Connections L Fut) : Type 0 where
+-- This note, which hands no connection back, was added to what is owed, or none.
+pub record OwesMore {L Fut : Type 0} (identity : L → Identity) (note : Note L) (a b : Connections L Fut) : Type 0 where
   pub once : (h : Card → ℕ) → sum_by (of_note identity h) b.owed.items ≡ sum_by (of_note identity h) a.owed.items
-  pub signals : (f : Note L → ℕ) → sum_by f b.owed.items ≡ sum_by f a.owed.items + newly (f Ready) a.told b.told
+  pub signals : (f : Note L → ℕ) → sum_by f b.owed.items ≡ sum_by f a.owed.items + newly (f note) a.told b.told
   pub told_ready : a.told ≡ true → b.told ≡ true
   pub parcels : b.parcels ≡ a.parcels
   pub notes : b.notes ≡ a.notes

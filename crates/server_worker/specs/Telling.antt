@@ -3,7 +3,7 @@ use Rattle.std.specs.Prelude.{◌≡◌, ℕ, ◌+◌, Bool, true, false, List, 
 use Rattle.rtrb.specs.Ring.{sent}
 use Rattle.server_run.specs.declared.entry.Entry.{Entry}
 use Rattle.server_jobs.specs.declared.note.Note.{Note}
-use Rattle.server_jobs.specs.declared.note.Note.TheVariants.{Ready, Back}
+use Rattle.server_jobs.specs.declared.note.Note.TheVariants.{Ready, Back, Faulted}
 use Rattle.server_worker.specs.Standing.{AllMade}
 use Rattle.server_worker.specs.declared.connections.Connections.{Connections}
 use Rattle.server_worker.specs.declared.slot.Slot.{Slot}
@@ -26,6 +26,11 @@ newly n false false = 0
 pub record TellsNoReady {L Fut : Type 0} (a b : Connections L Fut) : Type 0 where
   pub count : (f : Note L → ℕ) → WeighsSignals f → noted f b ≡ noted f a
   pub told : b.told ≡ a.told
+
+-- That the worker ends by a fault is told where nothing of its services was told before, once, and no other note came.
+pub record TellsFault {L Fut : Type 0} (a b : Connections L Fut) : Type 0 where
+  pub once : (f : Note L → ℕ) → noted f b ≡ noted f a + newly (f Faulted) a.told b.told
+  pub told : b.told ≡ true
 
 -- That all services stand was told in between where it had not been told before, and once, and only where they do. No other note
 -- came but those that hand connections back.

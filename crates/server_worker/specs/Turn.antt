@@ -24,6 +24,8 @@ pub record Works {L S Fac E I Fut MFut : Type 0} (mg : FutureOf MFut (Result S I
   pub connections : IsSound g may_stand may_serve may_leave may_make (length services.slots.items) hand
   pub slots : AreSlots mg sg may_stand may_serve may_leave may_ready may_init may_make services.slots.items
   pub made : services.made ≡ true → AllMade services.slots.items
+  -- that they all stand is told only where they do
+  pub told : hand.told ≡ true → services.made ≡ true
 
 abbrev pub IsGoing : {E I : Type 0} → Turned E I → Type 0
 IsGoing Going = ⊤

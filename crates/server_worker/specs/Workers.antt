@@ -11,7 +11,6 @@ use Rattle.server_jobs.specs.declared.parcel.Parcel.{Parcel}
 use Rattle.server_jobs.specs.declared.waiting.Waiting.{Waiting}
 use Rattle.worker_core.specs.WorkerCore.{Worker as Core}
 use Rattle.server_worker.specs.declared.connections.Connections.{Connections}
-use Rattle.server_worker.specs.declared.live.Live.{Live}
 use Rattle.server_worker.specs.declared.services.Services.{Services}
 use Rattle.server_worker.specs.declared.slot.Slot.{Slot}
 use Rattle.server_worker.specs.declared.worker.Worker.{Worker}
@@ -53,22 +52,11 @@ module _ {L F Fac E S I MFut Fut : Type 0} where
   abbrev pub queue_of : Worker L F Fac E S I MFut Fut → List (Waiting L)
   queue_of w = w.hand.queue.items
 
-  -- those of which no listener is known
-  abbrev pub strays_of : Worker L F Fac E S I MFut Fut → List (Waiting L)
-  strays_of w = w.hand.strays.items
-
-  abbrev pub live_of : Worker L F Fac E S I MFut Fut → List (Live L Fut)
-  live_of w = w.hand.live.items
-
-  -- the notes that are to be handed back
-  abbrev pub owed_of : Worker L F Fac E S I MFut Fut → List (Note L)
-  owed_of w = w.hand.owed.items
-
   -- it took a stop
   abbrev pub stopped_of : Worker L F Fac E S I MFut Fut → Bool
   stopped_of w = w.hand.stopped
 
-  -- it told that all its services stand, or is to tell it by what is owed
+  -- it told that all its services stand, or that it ends by a fault, or is to tell it by what is owed
   abbrev pub told_of : Worker L F Fac E S I MFut Fut → Bool
   told_of w = w.hand.told
 

@@ -3,7 +3,7 @@ ghost use Rattle.std.specs.Prelude.{◌≡◌, ◌≤◌, ◌<◌, false, length
 ghost use Rattle.server_worker.specs.Room.{IsFresh};
 ghost use Rattle.server_worker.specs.Standing.{AreSlots, IsSlot};
 ghost use Rattle.server_worker.specs.Turn.{Works};
-ghost use Rattle.server_worker.specs.Workers.{core_of, factory_of, hand_of, listeners_of, made_of, notes_of, parcels_of, services_of, total_of};
+ghost use Rattle.server_worker.specs.Workers.{core_of, factory_of, hand_of, held_by, listeners_of, made_of, notes_of, parcels_of, services_of, total_of};
 ghost use Rattle.worker_core.specs.WorkerCore.{new_worker};
 
 use crate::connections::Connections;
@@ -98,6 +98,7 @@ impl<L: Link, F: ServerServiceFactory<L>> Worker<L, F> {
         ensures core { IfOk result (λ w. core_of w ≡ new_worker listeners) }
         ensures made { IfOk result (λ w. made_of w ≡ false) }
         ensures total { IfOk result (λ w. total_of w ≡ 0) }
+        ensures held { IfOk result (λ w. held_by w ≡ 0) }
         ensures refused { IfErr result (λ parts. (parts.parcels ≡ parcels) × (parts.notes ≡ notes) × (parts.factory ≡ factory)) }
     {
         let Ok((factories, slots)) = begin_all(alloc, &factory, listeners) else {

@@ -19,7 +19,7 @@ pub(crate) struct Connections<L: Drop, Fut> {
     // What is to be handed back.
     pub(crate) owed: VecDeque<Note<L>>,
     pub(crate) stopped: bool,
-    // The acceptor was told that all services stand, or is to be told by what is owed.
+    // The acceptor was told that all services stand, or that the worker ends by a fault, or is to be told by what is owed.
     pub(crate) told: bool,
     // Each that waits has its place among the live ones, and each has its way back.
     ghost places: { vec_len live + deque_len queue ≤ vec_capacity live },

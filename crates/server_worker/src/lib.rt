@@ -5,6 +5,7 @@ mod admitting;
 mod beginning;
 mod connections;
 mod finished;
+mod leaving;
 mod live;
 mod making;
 mod polling;

@@ -1,5 +1,6 @@
 //! How a worker makes its services, and asks whether they are ready.
 ghost use Rattle.std.specs.Prelude.{◌≡◌, ◌<◌, ℕ, length, slice_get, IfSome, IfNone, IsTrue, IsFalse, true, false, Err};
+ghost use Rattle.futures.specs.Task.{Keeps};
 ghost use Rattle.server_worker.specs.Standing.{AllMade, AreSlots, IsMade, IsSlot, AtSlot, MadeOrWaits};
 
 use crate::services::Services;
@@ -29,6 +30,7 @@ where
     ensures waits { IfNone result (MadeOrWaits slot.old slot.new) }
     ensures error { IfSome result (F.may_init factory.now token) }
     ensures unmade { IfSome result (λ _. ¬ IsMade (Some slot.old)) }
+    ensures kept { Keeps cx.old cx.new }
 {
     let Slot::Making(future) = slot else {
         return None;
@@ -62,6 +64,7 @@ where
     ensures waits { IfNone result ((t : ℕ) → t < length slots.new.items → AtSlot MadeOrWaits (slice_get slots.old.items t) (slice_get slots.new.items t)) }
     ensures error { IfSome result (λ refused. (refused.0 < length slots.new.items) × F.may_init factory.now refused.0 refused.1) }
     ensures unmade { IfSome result (λ _. ¬ AllMade slots.old.items) }
+    ensures kept { Keeps cx.old cx.new }
 {
     for token in 0..slots.len() {
         if let Some(error) = make_one(factory, &mut slots[token], token, cx) {

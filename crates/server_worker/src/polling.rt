@@ -1,5 +1,6 @@
 //! How a worker polls its live connections.
 ghost use Rattle.std.specs.Prelude.{◌≡◌, ◌+◌, ◌<◌, vec_len, IfSome, IfNone, slice_index_or};
+ghost use Rattle.futures.specs.Task.{Keeps};
 ghost use Rattle.service_core.specs.Counts.{risen};
 ghost use Rattle.service_core.specs.Shown.{wait_count};
 ghost use Rattle.server_run.specs.Delivery.{ComesBack};
@@ -33,6 +34,7 @@ where
     ensures waits { IfNone result (wait_count live.new.future ≡ risen (wait_count live.old.future)) }
     ensures back { IfSome result (λ f. ComesBack (F.may_serve factory.now live.old.token) (F.may_leave factory.now live.old.token) live.old.given.value f.link f.outcome) }
     ensures identity { IfSome result (λ f. L.identity f.link ≡ L.identity live.old.given.value) }
+    ensures kept { Keeps cx.old cx.new }
 {
     match live.future.poll(cx) {
         Poll::Ready(Ok(Ended { link, how })) => Some(Finished {
@@ -81,9 +83,10 @@ where
     F: ServerServiceFactory<L>,
     requires inside { at < vec_len hand.old.live }
     requires sound { IsSound F.Factory.Service.Future.Future F.Factory.Service.Future.may_stand (F.may_serve factory.now) (F.may_leave factory.now) (F.may_make factory.now) listeners hand.old }
-    ensures { (first : Connections L F.Factory.Service.Future)
+    ensures polls { (first : Connections L F.Factory.Service.Future)
         → PolledFrom F.Factory.Service.Future.Future F.Factory.Service.Future.may_stand (F.may_serve factory.now) (F.may_leave factory.now) (F.may_make factory.now) listeners L.identity first hand.old (at + 1)
         → PolledFrom F.Factory.Service.Future.Future F.Factory.Service.Future.may_stand (F.may_serve factory.now) (F.may_leave factory.now) (F.may_make factory.now) listeners L.identity first hand.new at }
+    ensures kept { Keeps cx.old cx.new }
 {
     match poll_one(factory, &mut hand.live[at], cx) {
         Some(finished) => hand.end(at, finished),
@@ -102,7 +105,8 @@ where
     L: Link,
     F: ServerServiceFactory<L>,
     requires sound { IsSound F.Factory.Service.Future.Future F.Factory.Service.Future.may_stand (F.may_serve factory.now) (F.may_leave factory.now) (F.may_make factory.now) listeners hand.old }
-    ensures { PolledFrom F.Factory.Service.Future.Future F.Factory.Service.Future.may_stand (F.may_serve factory.now) (F.may_leave factory.now) (F.may_make factory.now) listeners L.identity hand.old hand.new 0 }
+    ensures polls { PolledFrom F.Factory.Service.Future.Future F.Factory.Service.Future.may_stand (F.may_serve factory.now) (F.may_leave factory.now) (F.may_make factory.now) listeners L.identity hand.old hand.new 0 }
+    ensures kept { Keeps cx.old cx.new }
 {
     let mut at = hand.live.len();
     while at > 0 {

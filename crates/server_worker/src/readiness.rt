@@ -1,6 +1,7 @@
 //! How a worker asks its services whether they are ready.
 ghost use Rattle.std.specs.Prelude.{◌≡◌, ◌<◌, ℕ, length, Err};
 ghost use Rattle.futures.specs.declared.task.Poll.TheVariants.{Ready as PollReady};
+ghost use Rattle.futures.specs.Task.{Keeps};
 ghost use Rattle.worker_core.specs.WorkerCore.{MayAsk, after_ready};
 ghost use Rattle.worker_core.specs.declared.ready_answer.ReadyAnswer.TheVariants as answers;
 ghost use Rattle.server_run.specs.Creating.{Stands};
@@ -27,7 +28,8 @@ where
     requires stands { Stands F.Factory.Service.Service F.Factory.Service.Future.may_stand (F.may_serve factory.now token)
         (F.may_leave factory.now token) (F.may_ready factory.now token) service.now }
     requires never_errs { (e : F.Factory.Error) → F.may_ready factory.now token (PollReady (Err e)) → ⊥ }
-    ensures { MayAnswer (F.may_ready factory.now token) result }
+    ensures answer { MayAnswer (F.may_ready factory.now token) result }
+    ensures kept { Keeps cx.old cx.new }
 {
     match service.poll_ready(cx) {
         Poll::Ready(Ok(())) => ReadyAnswer::Ready,
@@ -72,6 +74,7 @@ where
     ensures slots { services.new.slots ≡ services.old.slots }
     ensures made { services.new.made ≡ services.old.made }
     ensures factories { services.new.factories ≡ services.old.factories }
+    ensures kept { Keeps cx.old cx.new }
 {
     for token in 0..services.slots.len() {
         let answer = ask(

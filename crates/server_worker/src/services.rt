@@ -8,6 +8,7 @@ use worker_core::WorkerCore;
 /// The services of a worker, by token.
 #[derive(Drop)]
 pub(crate) struct Services<Fac, Fut, S> {
+    // What each token's services are made from.
     pub(crate) factories: Vec<Fac>,
     pub(crate) slots: Vec<Slot<Fut, S>>,
     pub(crate) core: WorkerCore,

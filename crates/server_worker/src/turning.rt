@@ -1,6 +1,7 @@
 //! A worker's turn.
 ghost use Rattle.std.specs.Prelude.{◌≡◌, ◌≢◌, ◌<◌, ◌+◌, ◌⊎◌, ℕ, [], length, cond, vec_len, true, false, Err};
 ghost use Rattle.std.specs.VecDeque.{deque_len};
+ghost use Rattle.futures.specs.Task.{Keeps};
 ghost use Rattle.futures.specs.declared.task.Poll.TheVariants.{Ready as PollReady};
 ghost use Rattle.rtrb.specs.Ring.{known_free, known_items};
 ghost use Rattle.worker_core.specs.WorkerCore.{state_of};
@@ -14,6 +15,7 @@ ghost use Rattle.server_worker.specs.Taken.{Queues, Receives};
 ghost use Rattle.server_worker.specs.Telling.{TellsNoReady, TellsReady};
 ghost use Rattle.server_worker.specs.Turn.{ComesTo, GoesOn, IsGoing, Works};
 ghost use Rattle.server_worker.specs.Workers.{core_of, factory_of, hand_of, held_by, listeners_of, made_of, parcels_of, queue_of, services_of, slots_of, stopped_of, told_of, total_of};
+ghost use Rattle.server_jobs.specs.declared.note.Note.TheVariants.{Ready};
 ghost use Rattle.server_worker.specs.declared.turned.Turned.TheVariants.{Going, Short, Left, Unstarted, Faulted};
 
 use crate::admitting::admit;
@@ -43,6 +45,7 @@ impl<L: Link, F: ServerServiceFactory<L>> Worker<L, F> {
         ensures asks { AsksUpTo (F.may_ready self.new.factory) self.old.services.core self.new.services.core (cond self.new.services.made (length self.new.services.slots.items) 0) }
         ensures all { self.new.services.made ≡ true → state_of self.new.services.core ≡ state.Available → self.new.hand.queue.items ≡ [] }
         ensures none { (self.new.services.made ≡ true → state_of self.new.services.core ≡ state.Available → ⊥) → self.new.hand.queue.items ≡ self.old.hand.queue.items }
+        ensures kept { Keeps cx.old cx.new }
     {
         if !self.services.stand() {
             return;
@@ -62,7 +65,7 @@ impl<L: Link, F: ServerServiceFactory<L>> Worker<L, F> {
             (F.may_serve self.new.factory) (F.may_leave self.new.factory) (F.may_ready self.new.factory) (F.may_init self.new.factory) (F.may_make self.new.factory) self.new.services self.new.hand }
         ensures factory { self.new.factory ≡ self.old.factory }
         ensures services { self.new.services ≡ self.old.services }
-        ensures owes { OwesMore L.identity self.old.hand self.new.hand }
+        ensures owes { OwesMore L.identity Ready self.old.hand self.new.hand }
         ensures told { self.new.services.made ≡ true → self.new.hand.told ≡ true }
         ensures stand { self.old.hand.told ≡ false → self.new.hand.told ≡ true → self.new.services.made ≡ true }
     {
@@ -91,6 +94,7 @@ impl<L: Link, F: ServerServiceFactory<L>> Worker<L, F> {
         ensures stopped { self.new.hand.stopped ≡ self.old.hand.stopped }
         ensures notes { (self.new.hand.owed.items ≡ []) ⊎ (known_free self.new.hand.notes ≡ 0) }
         ensures total { self.new.total ≡ vec_len self.new.hand.live + (deque_len self.new.hand.queue + vec_len self.new.hand.strays) }
+        ensures kept { Keeps cx.old cx.new }
     {
         poll_live(&self.factory, &mut self.hand, self.services.slots.len(), cx);
         self.hand.post();
@@ -147,7 +151,9 @@ impl<L: Link, F: ServerServiceFactory<L>> Worker<L, F> {
         ensures stays { IsGoing result → stopped_of self.new ≡ true → total_of self.new ≢ 0 }
         ensures unstarted { (token : ℕ) (error : F.Factory.InitError) → result ≡ Unstarted token error
             → (token < listeners_of self.new) × F.may_init (factory_of self.new) token error × (made_of self.new ≡ false) }
+        ensures untold { (token : ℕ) (error : F.Factory.InitError) → result ≡ Unstarted token error → told_of self.new ≡ false }
         ensures faulted { (token : ℕ) (readiness : F.Factory.Error) (error : F.Factory.InitError) → result ≡ Faulted token readiness error → ⊥ }
+        ensures kept { Keeps cx.old cx.new }
     {
         let all = self.hand.take(self.services.slots.len());
         match make_services(&self.factory, &mut self.services.slots, cx) {

@@ -1,8 +1,9 @@
+use Rattle.futures.specs.Task.{Keeps}
 use Rattle.server_worker.specs.Polled.{PolledFrom}
 use Rattle.server_worker.proofs.polling.poll_live.Given as goal
 
 abbrev pub invariant-loop-at : goal.invariant-loop-at
-invariant-loop-at g l = PolledFrom g.F.Factory.Service.Future.Future g.F.Factory.Service.Future.LinkHolder.may_stand (g.F.ServerServiceFactory.may_serve l.fn.factory) (g.F.ServerServiceFactory.may_leave l.fn.factory) (g.F.ServerServiceFactory.may_make l.fn.factory) l.listeners g.L.Link.identity l.fn.hand l.hand l.at
+invariant-loop-at g l = Keeps l.fn.cx l.cx × PolledFrom g.F.Factory.Service.Future.Future g.F.Factory.Service.Future.LinkHolder.may_stand (g.F.ServerServiceFactory.may_serve l.fn.factory) (g.F.ServerServiceFactory.may_leave l.fn.factory) (g.F.ServerServiceFactory.may_make l.fn.factory) l.listeners g.L.Link.identity l.fn.hand l.hand l.at
 
 abbrev pub decreases-loop-at : goal.decreases-loop-at
 decreases-loop-at g l = l.at

@@ -1,4 +1,4 @@
-use Rattle.std.proofs.Common.{◌≡◌, ◌+◌, ◌<◌, refl, sym, ◌∙◌, ap, arith, rules}
+use Rattle.std.proofs.Common.{refl}
 use Rattle.server_acceptor.proofs.CarrySteps.{carries_got, carries_none_given}
 use Rattle.server_acceptor.proofs.acceptor.Acceptor.ask.Goals as goal
 

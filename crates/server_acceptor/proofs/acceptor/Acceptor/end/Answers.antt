@@ -1,4 +1,4 @@
-use Rattle.std.proofs.Common.{◌≡◌, ◌+◌, ◌<◌, refl, sym, ◌∙◌, ap, arith, rules, length}
+use Rattle.std.proofs.Common.{ap}
 use Rattle.server_core.specs.Core.{Core}
 use Rattle.server_acceptor.proofs.AskSteps.{ended_logs, patient_ended, ruled_kept}
 use Rattle.server_acceptor.proofs.HandSteps.{in_turn_kept}

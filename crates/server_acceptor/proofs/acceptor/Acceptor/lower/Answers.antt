@@ -1,4 +1,4 @@
-use Rattle.std.proofs.Common.{◌≡◌, ◌≢◌, refl, sym, ◌∙◌, ap, arith, rules}
+use Rattle.std.proofs.Common.{◌∙◌, ap, arith, rules}
 use Rattle.server_core.specs.Core.{Core, step}
 use Rattle.server_core.specs.declared.event.Event.TheVariants.{Notice}
 use Rattle.server_acceptor.proofs.HandSteps.{given_some, in_turn_kept, lowered_back, lowered_freed, out_lowered, ruled_freed, ruled_lower, sum_lower}
@@ -45,7 +45,7 @@ returns-else-was_full-clause-lowers g c =
 pub returns-then-was_full-clause-lowers : goal.returns-then-was_full-clause-lowers
 returns-then-was_full-clause-lowers g c =
     let e = lowered_freed c.args.self.now.core c.log.new.core c.log-then-was_full.new.core _ c.args.w _ _ _ c.args.self.now.rule (c.args.self.now.in_turn c.args.w c.requires.number) (search rules) c.requires.number c.requires.out
-        c.log.ensures.core c.log.ensures.events c.log-then-was_full.ensures.core c.log-then-was_full.ensures.events in
+    c.log.ensures.core c.log.ensures.events c.log-then-was_full.ensures.core c.log-then-was_full.ensures.events in
     record { logs = e.0; returns = e.1.0; backs = e.1.1 }
 
 pub returns-else-was_full-clause-some : goal.returns-else-was_full-clause-some

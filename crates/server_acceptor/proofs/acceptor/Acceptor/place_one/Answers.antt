@@ -1,4 +1,4 @@
-use Rattle.std.proofs.Common.{◌≡◌, ◌+◌, ◌<◌, ◌≤◌, refl, sym, ◌∙◌, ap, arith, rules, length, inl, inr}
+use Rattle.std.proofs.Common.{◌∙◌, ap, arith, rules, inl, inr}
 use Rattle.std.specs.Prelude.{is_some}
 use Rattle.server_acceptor.specs.declared.placed.Placed.TheVariants.{Sent, Waiting, Nothing}
 use Rattle.server_acceptor.proofs.DoesSteps.{proceeds_none, proceeds_trans}

@@ -1,5 +1,4 @@
-use Rattle.std.proofs.Common.{◌≡◌, ◌+◌, ◌<◌, ◌≤◌, refl, sym, ◌∙◌, ap, arith, rules, length, inl, inr}
-use Rattle.server_acceptor.specs.Accepting.{HasTold}
+use Rattle.std.proofs.Common.{arith, rules}
 use Rattle.server_acceptor.proofs.NoteSteps.{ends_later, hands_none, hands_trans, refused_again, same_workers, told_or_short}
 use Rattle.server_acceptor.proofs.acceptor.Acceptor.take_known.Goals as goal
 

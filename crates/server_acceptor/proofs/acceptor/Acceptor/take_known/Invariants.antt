@@ -1,4 +1,4 @@
-use Rattle.std.proofs.Common.{◌≡◌, ◌≢◌, ◌≤◌, ◌<◌, ℕ, length}
+use Rattle.std.proofs.Common.{◌≢◌, ◌≤◌, ◌<◌, ℕ}
 use Rattle.server_acceptor.specs.Accepting.{HasTold}
 use Rattle.server_acceptor.specs.Acceptors.{out_of, workers_of}
 use Rattle.server_acceptor.specs.Handing.{known_at, Hands}

@@ -1,8 +1,8 @@
-use Rattle.std.proofs.Common.{◌≡◌, ◌+◌, ◌<◌, ◌≤◌, [], ◌∷◌, true, false, refl, sym, ◌∙◌, ap, subst, arith, rules, vec_len, length, sum_by}
-use Rattle.std.specs.Prelude.{slice_index, slice_index_or, sum}
+use Rattle.std.proofs.Common.{◌<◌, [], ◌∷◌, true, false, refl, sym, ◌∙◌, ap, arith, length}
+use Rattle.std.specs.Prelude.{slice_index_or}
 use Rattle.std.specs.List.{list_all}
 use Rattle.std.proofs.Math.ListN.{length-set}
-use Rattle.std.proofs.lemmas.List.Elements.{All-nil, All-cons}
+use Rattle.std.proofs.lemmas.List.Elements.{All-nil}
 use Rattle.server_run.proofs.Progress.{adds_none}
 use Rattle.server_jobs.specs.Cards.{of_note}
 use Rattle.server_jobs.specs.declared.note.Note.TheVariants.{Ready, Back, Faulted}
@@ -142,7 +142,7 @@ pub returns-in-Back-clause-others : goal.returns-in-Back-clause-others
 returns-in-Back-clause-others g c v differ told =
     let inside : c.args.w < length c.args.self.now.notes.items = omega (arith, c.requires.number, c.args.self.now.workers.1) in
     told_still c.lower.new.self.notes.items c.args.self.now.notes.items c.args.w _ _ _ c.lower.ensures.notes inside c.index_mut.ensures.value c.pop_known.ensures.received.0
-      c.args.self.now.core.out c.lower.new.self.core.out v (out_elsewhere _ _ c.args.w v c.lower.ensures.out differ) differ told
+    c.args.self.now.core.out c.lower.new.self.core.out v (out_elsewhere _ _ c.args.w v c.lower.ensures.out differ) differ told
 
 pub returns-in-Ready-clause-others : goal.returns-in-Ready-clause-others
 returns-in-Ready-clause-others g c v differ told =

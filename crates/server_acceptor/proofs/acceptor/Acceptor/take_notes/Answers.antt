@@ -25,9 +25,10 @@ returns-then-not-take_known-clause-refused g c = c.take_known.ensures.refused âˆ
 
 pub returns-then-not-take_known-clause-faulted : goal.returns-then-not-take_known-clause-faulted
 returns-then-not-take_known-clause-faulted g c =
-    let before = (hands_trans _ _ _ _ _ _ _ _ _ _ c.loop-w.invariant.hands c.look.ensures.hands) in
-    (omega (arith, c.loop-w-test.true, c.len-w-end.ensures, c.args.self.now.workers.1, same_workers _ _ _ _ _ _ _ _ before, same_workers _ _ _ _ _ _ _ _ c.take_known.ensures.hands),
-      ends_later _ _ _ c.loop-w.w (before.receives c.loop-w.w) (c.take_known.ensures.faulted (search rules)))
+    let before = (hands_trans _ _ _ _ _ _ _ _ _ _ c.loop-w.invariant.hands c.look.ensures.hands) in (
+      omega (arith, c.loop-w-test.true, c.len-w-end.ensures, c.args.self.now.workers.1, same_workers _ _ _ _ _ _ _ _ before, same_workers _ _ _ _ _ _ _ _ c.take_known.ensures.hands),
+      ends_later _ _ _ c.loop-w.w (before.receives c.loop-w.w) (c.take_known.ensures.faulted (search rules)),
+    )
 
 pub returns-clause-told : goal.returns-clause-told
 returns-clause-told g c = Î» _. told_all c.loop-w.self c.loop-w.w

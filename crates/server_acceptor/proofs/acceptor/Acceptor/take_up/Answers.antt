@@ -1,5 +1,4 @@
-use Rattle.std.proofs.Common.{◌≡◌, ◌+◌, ◌<◌, ◌^◌, refl, sym, ◌∙◌, ap, arith, rules, length}
-use Rattle.std.specs.Prelude.{slice_index_or, slice_set}
+use Rattle.std.proofs.Common.{◌+◌, ◌<◌, ◌^◌, sym, ◌∙◌, ap, arith, length}
 use Rattle.std.proofs.Math.ListN.{length-set}
 use Rattle.server_core.specs.Core.{Core}
 use Rattle.server_acceptor.proofs.AskSteps.{all_below_set, got_logs, opened_below, patient_got, read_at, ruled_kept, sum_raised}

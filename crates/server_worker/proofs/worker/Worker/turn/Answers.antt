@@ -48,3 +48,7 @@ returns-in-None-clause-waits g c not_ready = queues_taken _ _ _ _ c.take-all.ens
     ∙ c.admit_ready.ensures.none (λ made available. not_ready
     (c.serve_live-in-None.ensures.made ∙ ap (λ s. s.made) c.tell_ready.ensures.services ∙ made)
     (ap state_of (c.serve_live-in-None.ensures.core ∙ ap (λ s. s.core) c.tell_ready.ensures.services) ∙ available)))
+
+pub returns-in-Some-clause-untold : goal.returns-in-Some-clause-untold
+returns-in-Some-clause-untold g c token error is = c.serve_live.ensures.no_ready.told ∙ c.take-all.ensures.takes.told_ready
+    ∙ is_unset c.args.self.now.hand.told _ (λ told. c.requires.works.made (c.requires.works.told told)) c.in-Some.ensures.unmade

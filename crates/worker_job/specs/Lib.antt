@@ -1,0 +1,4 @@
+pub mod Jobs
+pub mod Leaving
+pub mod Promise
+pub mod Working
