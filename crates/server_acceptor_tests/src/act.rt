@@ -1,4 +1,6 @@
-/// What a test does next. A worker goes by its number.
+use crate::deed::Deed;
+
+/// What a test does next.
 #[derive(Clone, Copy)]
 pub(crate) enum Act {
     /// The acceptor is turned.
@@ -9,18 +11,8 @@ pub(crate) enum Act {
     Rounds,
     /// What waits is placed by hand.
     Place,
-    /// A worker tells that its services stand.
-    Ready(usize),
-    /// A worker tells that it ends by a fault.
-    Fault(usize),
-    /// A worker takes what comes next, and keeps it.
-    Take(usize),
-    /// A worker takes a connection, and hands it back.
-    Back(usize),
-    /// A worker hands back a connection that it did not take.
-    Stray(usize),
-    /// How many notes of a worker were not taken yet.
-    Notes(usize),
+    /// The worker of that number does this.
+    Worker(usize, Deed),
     /// What came back.
     Entries,
     /// Whether each of so many connections of each listener came back once.

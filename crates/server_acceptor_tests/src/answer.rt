@@ -32,39 +32,36 @@ pub(crate) fn link_at(alloc: Global, token: usize, place: u64) -> MemoryLink {
     )
 }
 
-// Adds so many connections of a listener, from a place on.
-fn give(
-    alloc: Global,
-    token: usize,
-    from: u64,
-    count: u64,
-    steps: &mut Vec<ListenerStep>,
-) -> Result<(), AllocError> {
-    for k in 0..count {
-        let link = link_at(alloc, token, from.saturating_add(k));
-        steps.push(ListenerStep::Give(link))?;
+// How often a listener answers so.
+fn times(answer: Answer) -> u64 {
+    match answer {
+        Answer::Give(count) => count,
+        Answer::NotYet | Answer::Skip | Answer::Fail => 1,
     }
-    Ok(())
 }
 
-// Adds what a listener does for an answer. How many connections that gives.
+// What a listener does for an answer, where a connection has this place.
+fn step_of(alloc: Global, token: usize, place: u64, answer: Answer) -> ListenerStep {
+    match answer {
+        Answer::Give(_) => ListenerStep::Give(link_at(alloc, token, place)),
+        Answer::NotYet => ListenerStep::NotYet,
+        Answer::Skip => ListenerStep::Skip,
+        Answer::Fail => ListenerStep::Fail,
+    }
+}
+
+// Adds what a listener does for an answer, where so many connections were given before.
 fn add(
     alloc: Global,
     token: usize,
-    from: u64,
+    given: u64,
     answer: Answer,
     steps: &mut Vec<ListenerStep>,
-) -> Result<u64, AllocError> {
-    match answer {
-        Answer::Give(count) => {
-            give(alloc, token, from, count, steps)?;
-            return Ok(count);
-        }
-        Answer::NotYet => steps.push(ListenerStep::NotYet)?,
-        Answer::Skip => steps.push(ListenerStep::Skip)?,
-        Answer::Fail => steps.push(ListenerStep::Fail)?,
+) -> Result<(), AllocError> {
+    for k in 0..times(answer) {
+        steps.push(step_of(alloc, token, given.saturating_add(k), answer))?;
     }
-    Ok(0)
+    Ok(())
 }
 
 // What a listener does.
@@ -74,10 +71,12 @@ fn steps_of(
     answers: &[Answer],
 ) -> Result<Vec<ListenerStep>, AllocError> {
     let mut steps = Vec::new(alloc);
-    let mut from: u64 = 0;
+    let mut given: u64 = 0;
     for answer in answers {
-        let count = add(alloc, token, from, *answer, &mut steps)?;
-        from = from.saturating_add(count);
+        add(alloc, token, given, *answer, &mut steps)?;
+        if let Answer::Give(count) = *answer {
+            given = given.saturating_add(count);
+        }
     }
     Ok(steps)
 }
@@ -91,6 +90,14 @@ fn listener_of(alloc: Global, steps: Vec<ListenerStep>) -> Result<MemoryListener
     Ok(MemoryListener::new(alloc, steps))
 }
 
+// The listener with that token.
+fn listener(alloc: Global, token: usize, answers: &[Answer]) -> Result<MemoryListener, AllocError> {
+    match steps_of(alloc, token, answers) {
+        Ok(steps) => listener_of(alloc, steps),
+        Err(error) => Err(error),
+    }
+}
+
 /// So many listeners that answer so.
 pub(crate) fn listeners(
     alloc: Global,
@@ -99,8 +106,7 @@ pub(crate) fn listeners(
 ) -> Result<Vec<MemoryListener>, AllocError> {
     let mut listeners = Vec::new(alloc);
     for token in 0..count {
-        let steps = steps_of(alloc, token, answers)?;
-        listeners.push(listener_of(alloc, steps)?)?;
+        listeners.push(listener(alloc, token, answers)?)?;
     }
     Ok(listeners)
 }

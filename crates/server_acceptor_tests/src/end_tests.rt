@@ -1,9 +1,10 @@
 //! How listeners, workers and the acceptor come to an end.
-use crate::act::Act::{Back, Entries, Fault, Once, Ready, Rounds, Stray, Take, Turn};
+use crate::act::Act::{Entries, Once, Rounds, Turn, Worker};
 use crate::answer::Answer::{Fail as Fails, Give};
 use crate::book::Book;
+use crate::deed::Deed::{Back, Fault, Ready, Stray, Take};
 use crate::plan::{PLAIN, Plan};
-use crate::telling::tells;
+use crate::telling::{holds, tells};
 use server_acceptor::steps_carry;
 use server_run::MemoryListener;
 use std::test::Fail;
@@ -14,16 +15,16 @@ fn a_listener_that_failed_is_not_asked_for_500_milliseconds(rt: HostRuntime) -> 
     let wanted = b"turn, failed 0\n\
         turn\n\
         turn, failed 0\n";
-    assert!(rt;
+    holds(
+        &rt,
         tells(
             &rt,
             plan,
             &[Fails, Fails],
-            &[Ready(0), Turn, Turn, Turn],
-            wanted
-        )?
-    );
-    Ok(())
+            &[Worker(0, Ready), Turn, Turn, Turn],
+            wanted,
+        ),
+    )
 }
 
 #[test]
@@ -32,29 +33,37 @@ fn a_listener_is_given_up_after_failures_without_a_connection_between(
 ) -> Result<(), Fail> {
     let plan = Plan { step: 500, ..PLAIN };
     let answers = [Fails, Fails, Give(1), Fails, Fails, Fails, Give(1)];
-    let acts = [Ready(0), Turn, Turn, Turn, Turn, Turn, Back(0), Turn];
+    let acts = [
+        Worker(0, Ready),
+        Turn,
+        Turn,
+        Turn,
+        Turn,
+        Turn,
+        Worker(0, Back),
+        Turn,
+    ];
     let wanted = b"turn, failed 0\n\
         turn, failed 0\n\
         turn, got 0, sent 0, failed 0\n\
         turn, failed 0\n\
         turn, failed 0, ended 0\n\
         turn, back 0, drained\n";
-    assert!(rt; tells(&rt, plan, &answers, &acts, wanted)?);
-    Ok(())
+    holds(&rt, tells(&rt, plan, &answers, &acts, wanted))
 }
 
 #[test]
 fn without_room_for_an_entry_nothing_more_is_accepted(rt: HostRuntime) -> Result<(), Fail> {
     let plan = Plan { rooms: 2, ..PLAIN };
     let acts = [
-        Ready(0),
+        Worker(0, Ready),
         Turn,
         Turn,
-        Back(0),
+        Worker(0, Back),
         Turn,
-        Back(0),
+        Worker(0, Back),
         Turn,
-        Take(0),
+        Worker(0, Take),
         Entries,
     ];
     let wanted = b"turn, got 0, sent 0, got 0, sent 0\n\
@@ -64,8 +73,7 @@ fn without_room_for_an_entry_nothing_more_is_accepted(rt: HostRuntime) -> Result
         worker 0 takes a stop\n\
         done: 0 from 0 at 0\n\
         done: 1 from 0 at 1\n";
-    assert!(rt; tells(&rt, plan, &[Give(3)], &acts, wanted)?);
-    Ok(())
+    holds(&rt, tells(&rt, plan, &[Give(3)], &acts, wanted))
 }
 
 #[test]
@@ -75,17 +83,17 @@ fn each_worker_gets_a_stop_once_all_came_back(rt: HostRuntime) -> Result<(), Fai
         ..PLAIN
     };
     let acts = [
-        Ready(0),
-        Ready(1),
+        Worker(0, Ready),
+        Worker(1, Ready),
         Turn,
         Turn,
-        Take(1),
-        Back(0),
+        Worker(1, Take),
+        Worker(0, Back),
         Turn,
-        Take(0),
-        Take(1),
+        Worker(0, Take),
+        Worker(1, Take),
         Turn,
-        Take(0),
+        Worker(0, Take),
     ];
     let wanted = b"turn, got 0, sent 0, ended 0\n\
         turn\n\
@@ -95,21 +103,27 @@ fn each_worker_gets_a_stop_once_all_came_back(rt: HostRuntime) -> Result<(), Fai
         worker 1 takes a stop\n\
         turn, drained\n\
         worker 0 takes nothing\n";
-    assert!(rt; tells(&rt, plan, &[Give(1)], &acts, wanted)?);
-    Ok(())
+    holds(&rt, tells(&rt, plan, &[Give(1)], &acts, wanted))
 }
 
 #[test]
 fn a_full_ring_delays_the_stop_and_the_end(rt: HostRuntime) -> Result<(), Fail> {
     let plan = Plan { places: 1, ..PLAIN };
-    let acts = [Ready(0), Turn, Stray(0), Turn, Take(0), Turn, Take(0)];
+    let acts = [
+        Worker(0, Ready),
+        Turn,
+        Worker(0, Stray),
+        Turn,
+        Worker(0, Take),
+        Turn,
+        Worker(0, Take),
+    ];
     let wanted = b"turn, got 0, sent 0, ended 0\n\
         turn, back 0\n\
         worker 0 takes 0 from 0 at 0\n\
         turn, drained\n\
         worker 0 takes a stop\n";
-    assert!(rt; tells(&rt, plan, &[Give(1)], &acts, wanted)?);
-    Ok(())
+    holds(&rt, tells(&rt, plan, &[Give(1)], &acts, wanted))
 }
 
 #[test]
@@ -118,16 +132,16 @@ fn a_worker_that_ends_by_a_fault_is_named(rt: HostRuntime) -> Result<(), Fail> {
         workers: 2,
         ..PLAIN
     };
-    assert!(rt;
+    holds(
+        &rt,
         tells(
             &rt,
             plan,
             &[Give(1)],
-            &[Ready(0), Fault(1), Turn],
-            b"turn, lost 1\n"
-        )?
-    );
-    Ok(())
+            &[Worker(0, Ready), Worker(1, Fault), Turn],
+            b"turn, lost 1\n",
+        ),
+    )
 }
 
 #[test]
@@ -139,9 +153,17 @@ fn each_connection_of_sixty_four_listeners_comes_back_once(rt: HostRuntime) -> R
         limit: 40,
         ..PLAIN
     };
-    let acts = [Ready(0), Ready(1), Ready(2), Rounds, Once(30)];
-    assert!(rt; tells(&rt, plan, &[Give(30)], &acts, b", drained, each once")?);
-    Ok(())
+    let acts = [
+        Worker(0, Ready),
+        Worker(1, Ready),
+        Worker(2, Ready),
+        Rounds,
+        Once(30),
+    ];
+    holds(
+        &rt,
+        tells(&rt, plan, &[Give(30)], &acts, b", drained, each once"),
+    )
 }
 
 #[test]

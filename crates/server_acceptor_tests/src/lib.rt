@@ -8,15 +8,17 @@ mod answer;
 #[cfg(test)]
 mod book;
 #[cfg(test)]
-mod end_tests;
+mod deed;
 #[cfg(test)]
-mod ends;
+mod end_tests;
 #[cfg(test)]
 mod log;
 #[cfg(test)]
 mod plan;
 #[cfg(test)]
-mod post;
+mod rings;
+#[cfg(test)]
+mod staff;
 #[cfg(test)]
 mod stage;
 #[cfg(test)]

@@ -1,7 +1,7 @@
 ghost use Rattle.std.specs.Prelude.{◌≤◌};
 
 use crate::answer::name_of;
-use crate::post::outcome_of;
+use crate::staff::outcome_of;
 use server_acceptor::{AcceptTurn, Placed};
 use server_core::Event;
 use server_jobs::Parcel;
@@ -57,31 +57,11 @@ impl Log {
         self.number(number);
     }
 
-    fn event(&mut self, event: Event) {
-        match event {
-            Event::Got(t) => self.before(", got ", t as u64),
-            Event::Sent {
-                worker,
-                remains: true,
-            } => self.before(", sent ", worker as u64),
-            Event::Sent {
-                worker,
-                remains: false,
-            } => self.before(", filled ", worker as u64),
-            Event::RingFull(w) => self.before(", full ", w as u64),
-            Event::Notice(w) => self.before(", notice ", w as u64),
-            Event::Back(w) => self.before(", back ", w as u64),
-            Event::ListenerFailed(t) => self.before(", failed ", t as u64),
-            Event::ListenerEnded(t) => self.before(", ended ", t as u64),
-            Event::Command(_) | Event::Faulted(_) | Event::Replaced(_) | Event::Retired(_) =>
-                self.word(", wrong"),
-        }
-    }
-
     /// The events from that one on.
     pub(crate) fn events(&mut self, events: &[Event], from: usize) {
         for event in events.iter().skip(from) {
-            self.event(*event);
+            let (word, number) = words(*event);
+            self.before(word, number as u64);
         }
     }
 
@@ -151,6 +131,29 @@ impl Log {
             return Err(AllocError);
         }
         Ok(self.text.as_bytes() == wanted)
+    }
+}
+
+// An event in words, and its number.
+fn words(event: Event) -> (&'static str, usize) {
+    match event {
+        Event::Got(t) => (", got ", t),
+        Event::Sent {
+            worker,
+            remains: true,
+        } => (", sent ", worker),
+        Event::Sent {
+            worker,
+            remains: false,
+        } => (", filled ", worker),
+        Event::RingFull(w) => (", full ", w),
+        Event::Notice(w) => (", notice ", w),
+        Event::Back(w) => (", back ", w),
+        Event::ListenerFailed(t) => (", failed ", t),
+        Event::ListenerEnded(t) => (", ended ", t),
+        Event::Command(_) | Event::Faulted(_) | Event::Replaced(_) | Event::Retired(_) => (
+            ", wrong ", 0,
+        ),
     }
 }
 

@@ -4,19 +4,19 @@ ghost use Rattle.server_run.specs.Delivery.{given_at};
 ghost use Rattle.server_acceptor.specs.Acceptors.{listeners_of, out_of, places_of, workers_of};
 
 use crate::act::Act;
-use crate::answer::{Answer, link_at, listeners};
+use crate::answer::{Answer, listeners};
 use crate::book::Book;
-use crate::ends::Ends;
 use crate::log::Log;
 use crate::plan::Plan;
-use crate::post::Post;
-use crate::tally::{Tally, is_each_once};
+use crate::rings::Rings;
+use crate::staff::Staff;
+use crate::tally::{count_got, is_each_once};
 use futures::task::Context;
 use futures::test::MockTask;
 use rtrb::{Consumer, Producer};
 use server_acceptor::{AcceptTurn, Acceptor};
 use server_jobs::{Note, Parcel, StepClock};
-use server_run::{Done, Entry, Listener, MemoryLink, MemoryListener, Outcome};
+use server_run::{Done, Listener, MemoryLink, MemoryListener};
 use std::alloc::{AllocError, Global};
 
 /// An acceptor, its listeners, the workers' ends of its rings, and what happened.
@@ -27,7 +27,7 @@ pub(crate) struct Stage {
     listeners: Vec<MemoryListener>,
     clock: StepClock,
     book: Book,
-    posts: Vec<Post>,
+    staff: Staff,
     workers: usize,
     log: Log,
     ghost as_many: { length listeners.items ≡ listeners_of acceptor },
@@ -73,22 +73,22 @@ fn set(
     alloc: Global,
     plan: &Plan,
     listeners: Vec<MemoryListener>,
-    ends: Ends,
+    there: Rings<Parcel<MemoryLink>>,
+    back: Rings<Note<MemoryLink>>,
 ) -> Result<Stage, AllocError> {
-    let Ends {
-        parcels,
-        notes,
-        posts,
-    } = ends;
-    let workers = parcels.len();
-    let acceptor = begun(alloc, plan, parcels, notes, listeners.len())?;
+    let workers = there.into.len();
+    let acceptor = begun(alloc, plan, there.into, back.out, listeners.len())?;
     Ok(Stage {
         alloc,
         acceptor,
         listeners,
         clock: StepClock::new(0, plan.step),
         book: Book::new(alloc, plan.rooms),
-        posts,
+        staff: Staff {
+            alloc,
+            parcels: there.out,
+            notes: back.into,
+        },
         workers,
         log: Log::new(alloc),
     })
@@ -99,8 +99,9 @@ impl Stage {
     /// A stage by a plan, with listeners that answer so.
     pub(crate) fn new(alloc: Global, plan: &Plan, answers: &[Answer]) -> Result<Stage, AllocError> {
         let listeners = listeners(alloc, plan.listeners, answers)?;
-        let ends = Ends::new(alloc, plan.workers, plan.places)?;
-        set(alloc, plan, listeners, ends)
+        let there = Rings::new(alloc, plan.workers, plan.places)?;
+        let back = Rings::new(alloc, plan.workers, plan.places)?;
+        set(alloc, plan, listeners, there, back)
     }
 
     // One turn. Without memory nothing more is told.
@@ -114,114 +115,57 @@ impl Stage {
         turned
     }
 
+    // One turn, as a poll of the task.
+    fn turn_in(&mut self, task: &MockTask) -> AcceptTurn {
+        task.enter(|cx| self.turn(cx))
+    }
+
     // One turn, by its events.
     fn show_turn(&mut self, task: &MockTask) {
-        let turned = task.enter(|cx| self.turn(cx));
+        let turned = self.turn_in(task);
         self.log.word("turn");
         self.log.events(self.acceptor.events(), 0);
         self.log.turned(turned);
         self.log.word("\n");
     }
 
-    // One turn, by the numbers of its events and of those for which there is still room.
+    // One turn, by the numbers of connections that came, of events, and of those for which there is still room.
     fn count_turn(&mut self, task: &MockTask) {
-        let turned = task.enter(|cx| self.turn(cx));
-        let tally = Tally::of(self.acceptor.events());
-        self.log.word("turn");
-        tally.tell(&mut self.log);
-        self.log
-            .before(", room for ", self.acceptor.event_room() as u64);
-        self.log.turned(turned);
+        self.turn_in(task);
+        let events = self.acceptor.events();
+        let room = self.acceptor.event_room();
+        self.log.before("turn, got ", count_got(events));
+        self.log.before(" in ", events.len() as u64);
+        self.log.before(", room for ", room as u64);
         self.log.word("\n");
     }
 
     // Turns until it does not go on, and lets each worker hand back what it has between turns.
     fn turn_out(&mut self, task: &MockTask) {
         for _ in 0..1_000_u32 {
-            let turned = task.enter(|cx| self.turn(cx));
+            let turned = self.turn_in(task);
             if turned != AcceptTurn::Going {
                 self.log.turned(turned);
                 return;
             }
-            self.hand_all_back();
+            self.staff.hand_all_back();
         }
     }
 
-    // Places what waits by hand. There is room for the events.
+    // Places what waits by hand, where there is room for the events.
     fn place(&mut self) {
         let from = self.acceptor.events().len();
-        self.log.word("place");
         if self.acceptor.event_room() < 2 * self.workers + 1 {
             return;
         }
         let placed = self.acceptor.place();
+        self.log.word("place");
         self.log.events(self.acceptor.events(), from);
         self.log.placed(placed);
         self.log.word("\n");
     }
-}
 
-// What the workers do.
-impl Stage {
-    fn hand_all_back(&mut self) {
-        for post in self.posts.iter_mut() {
-            post.hand_all_back();
-        }
-    }
-
-    // Writes down where this does not hold.
-    fn confirm(&mut self, holds: bool) {
-        if !holds {
-            self.log.word("refused\n");
-        }
-    }
-
-    fn tell(&mut self, w: usize, note: Note<MemoryLink>) {
-        let told = match self.posts.get_mut(w) {
-            Some(post) => post.tell(note),
-            None => false,
-        };
-        self.confirm(told);
-    }
-
-    fn hand_back(&mut self, w: usize) {
-        let told = match self.posts.get_mut(w) {
-            Some(post) => post.hand_back(),
-            None => false,
-        };
-        self.confirm(told);
-    }
-
-    fn take(&mut self, w: usize) {
-        self.log.before("worker ", w as u64);
-        self.log.word(" takes ");
-        if let Some(post) = self.posts.get_mut(w) {
-            post.take(&mut self.log);
-        }
-        self.log.word("\n");
-    }
-
-    // The entry of a connection that no listener gave.
-    fn stray(&self) -> Entry<MemoryLink> {
-        Entry {
-            serial: 0,
-            token: 0,
-            place: 0,
-            link: link_at(self.alloc, 0, 0),
-            outcome: Outcome::Served,
-        }
-    }
-
-    fn show_notes(&mut self, w: usize) {
-        let left = match self.posts.get_mut(w) {
-            Some(post) => post.notes_left(),
-            None => 0,
-        };
-        self.log.before("notes of worker ", w as u64);
-        self.log.before(": ", left as u64);
-        self.log.word("\n");
-    }
-
+    // Writes down whether each of so many connections of each listener came back once.
     fn show_once(&mut self, links: u64) {
         match is_each_once(self.alloc, self.book.entries(), self.listeners.len(), links) {
             Ok(true) => self.log.word(", each once"),
@@ -229,39 +173,29 @@ impl Stage {
             Err(_) => self.log.lack_memory(),
         }
     }
-}
 
-// What a test does.
-impl Stage {
     fn act(&mut self, task: &MockTask, act: Act) {
         match act {
             Act::Turn => self.show_turn(task),
             Act::Count => self.count_turn(task),
             Act::Rounds => self.turn_out(task),
             Act::Place => self.place(),
-            Act::Ready(w) => self.tell(w, Note::Ready),
-            Act::Fault(w) => self.tell(w, Note::Faulted),
-            Act::Take(w) => self.take(w),
-            Act::Back(w) => self.hand_back(w),
-            Act::Stray(w) => {
-                let entry = self.stray();
-                self.tell(w, Note::Back(entry));
-            }
-            Act::Notes(w) => self.show_notes(w),
+            Act::Worker(w, deed) => self.staff.act(w, deed, &mut self.log),
             Act::Entries => self.log.entries(self.book.entries()),
             Act::Once(links) => self.show_once(links),
         }
     }
 
-    /// All of this, one after the other.
-    pub(crate) fn act_all(&mut self, task: &MockTask, acts: &[Act]) {
+    /// Whether this happens where all of that is done, one after the other.
+    pub(crate) fn tells(
+        &mut self,
+        task: &MockTask,
+        acts: &[Act],
+        wanted: &[u8],
+    ) -> Result<bool, AllocError> {
         for act in acts {
             self.act(task, *act);
         }
-    }
-
-    /// Whether this happened.
-    pub(crate) fn tells(&self, wanted: &[u8]) -> Result<bool, AllocError> {
         self.log.is(wanted)
     }
 }

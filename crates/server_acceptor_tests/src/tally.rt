@@ -1,47 +1,18 @@
+//! Counts of events and of entries.
 use crate::answer::name_of;
-use crate::log::Log;
 use server_core::Event;
 use server_run::{Entry, MemoryLink};
 use std::alloc::{AllocError, Global};
 
-/// How many events of a turn are of each kind.
-#[derive(Clone, Copy)]
-pub(crate) struct Tally {
-    got: u64,
-    sent: u64,
-    other: u64,
-}
-
-impl Tally {
-    // One event more.
-    fn add(&mut self, event: Event) {
-        let count = match event {
-            Event::Got(_) => &mut self.got,
-            Event::Sent { .. } => &mut self.sent,
-            _ => &mut self.other,
-        };
-        *count = count.saturating_add(1);
-    }
-
-    /// Of these events.
-    pub(crate) fn of(events: &[Event]) -> Tally {
-        let mut tally = Tally {
-            got: 0,
-            sent: 0,
-            other: 0,
-        };
-        for event in events {
-            tally.add(*event);
+/// How many connections the events tell of that came.
+pub(crate) fn count_got(events: &[Event]) -> u64 {
+    let mut count: u64 = 0;
+    for event in events {
+        if let Event::Got(_) = *event {
+            count = count.saturating_add(1);
         }
-        tally
     }
-
-    /// Writes it down.
-    pub(crate) fn tell(&self, log: &mut Log) {
-        log.before(", got ", self.got);
-        log.before(", sent ", self.sent);
-        log.before(", other ", self.other);
-    }
+    count
 }
 
 // Whether the entry is of one of so many connections of so many listeners, and has its link. It is marked, and was not before.

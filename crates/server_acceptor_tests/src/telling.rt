@@ -5,25 +5,16 @@ use crate::plan::Plan;
 use crate::stage::Stage;
 use futures::test::MockTask;
 use std::alloc::{AllocError, AllocGlobal, Global};
+use std::process::Abort;
 use std::random::RandomSource;
+use std::test::Fail;
 
 /// What a test takes of the system.
 pub(crate) trait Given: AllocGlobal + RandomSource {}
 
 impl<R: AllocGlobal + RandomSource> Given for R {}
 
-// Does all of it, and compares what happened.
-fn tells_all(
-    task: &MockTask,
-    stage: &mut Stage,
-    acts: &[Act],
-    wanted: &[u8],
-) -> Result<bool, AllocError> {
-    stage.act_all(task, acts);
-    stage.tells(wanted)
-}
-
-// The same of a stage that is made for it.
+// The same beside a task.
 fn made_tells(
     task: &MockTask,
     alloc: Global,
@@ -34,7 +25,7 @@ fn made_tells(
 ) -> Result<bool, AllocError> {
     match Stage::new(alloc, &plan, answers) {
         Ok(mut stage) => {
-            let told = tells_all(task, &mut stage, acts, wanted);
+            let told = stage.tells(task, acts, wanted);
             drop(stage);
             told
         }
@@ -54,4 +45,10 @@ pub(crate) fn tells<R: Given>(
         Ok(task) => made_tells(&task, rt.alloc(), plan, answers, acts, wanted),
         Err(_) => Err(AllocError),
     }
+}
+
+/// The test goes on where this holds.
+pub(crate) fn holds<R: Abort>(rt: &R, shown: Result<bool, AllocError>) -> Result<(), Fail> {
+    assert!(rt; shown?);
+    Ok(())
 }
