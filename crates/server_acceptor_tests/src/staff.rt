@@ -48,11 +48,11 @@ impl Staff {
         self.parcels.get_mut(w)?.pop().ok()
     }
 
-    // Sends a note. False where there is none, or no place for it.
-    fn tell(&mut self, w: usize, note: Option<Note<MemoryLink>>) -> bool {
-        match (self.notes.get_mut(w), note) {
-            (Some(notes), Some(note)) => notes.push(note).is_ok(),
-            _ => false,
+    // Sends a note. False where there is no place for it.
+    fn tell(&mut self, w: usize, note: Note<MemoryLink>) -> bool {
+        match self.notes.get_mut(w) {
+            Some(notes) => notes.push(note).is_ok(),
+            None => false,
         }
     }
 
@@ -80,6 +80,14 @@ impl Staff {
             Deed::Stray => Some(self.stray()),
             Deed::Back => self.ended(w),
             Deed::Take | Deed::Notes => None,
+        }
+    }
+
+    // Sends the note of what a worker does. False where there is none, or no place for it.
+    fn send(&mut self, w: usize, deed: Deed) -> bool {
+        match self.note(w, deed) {
+            Some(note) => self.tell(w, note),
+            None => false,
         }
     }
 
@@ -118,8 +126,7 @@ impl Staff {
             Deed::Take => self.show_taken(w, log),
             Deed::Notes => self.show_notes(w, log),
             Deed::Ready | Deed::Fault | Deed::Stray | Deed::Back => {
-                let note = self.note(w, deed);
-                if !self.tell(w, note) {
+                if !self.send(w, deed) {
                     log.word("refused\n");
                 }
             }
@@ -129,8 +136,7 @@ impl Staff {
     // A worker hands back all that it has, up to a thousand.
     fn hand_back(&mut self, w: usize) {
         for _ in 0..1_000_u32 {
-            let note = self.ended(w);
-            if !self.tell(w, note) {
+            if !self.send(w, Deed::Back) {
                 return;
             }
         }
