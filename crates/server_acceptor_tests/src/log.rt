@@ -25,7 +25,7 @@ impl Log {
         }
     }
 
-    // There was no memory.
+    /// There was no memory.
     pub(crate) fn lack_memory(&mut self) {
         self.lacks_memory = true;
     }
@@ -36,6 +36,7 @@ impl Log {
         }
     }
 
+    /// A word.
     pub(crate) fn word(&mut self, word: &str) {
         self.bytes(word.as_bytes());
     }

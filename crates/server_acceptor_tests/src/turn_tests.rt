@@ -39,8 +39,8 @@ fn connections_go_to_the_workers_in_turn(rt: HostRuntime) -> Result<(), Fail> {
         Worker(2, Take),
         Worker(0, Take),
     ];
-    let wanted =
-        b"turn, got 0, sent 0, got 0, sent 1, got 0, sent 2, ended 0, got 1, sent 0, got 1, sent 1, got 1, sent 2, ended 1\n\
+    let wanted = b"turn, got 0, sent 0, got 0, sent 1, got 0, sent 2, ended 0, \
+        got 1, sent 0, got 1, sent 1, got 1, sent 2, ended 1\n\
         worker 0 takes 0 from 0 at 0\n\
         worker 0 takes 3 from 1 at 0\n\
         worker 1 takes 1 from 0 at 1\n\
