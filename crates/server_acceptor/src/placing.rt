@@ -7,13 +7,12 @@ ghost use Rattle.server_acceptor.specs.Logging.{Logs};
 ghost use Rattle.server_acceptor.specs.Placing.{waits_of, IsPlaced, Refuses, Sends, Stays};
 ghost use Rattle.server_acceptor.specs.declared.placed.Placed.TheVariants.{Nothing};
 
-use crate::placed::Placed;
 use crate::acceptor::Acceptor;
 use crate::logging::log;
-use server_jobs::Parcel;
-use server_jobs::Waiting;
+use crate::placed::Placed;
 use rtrb::PushError;
 use server_core::{AcceptCore, Availability, Event};
+use server_jobs::{Parcel, Waiting};
 use service_core::Link;
 
 // How many workers get connections in turn.

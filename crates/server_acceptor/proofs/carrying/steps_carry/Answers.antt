@@ -1,4 +1,3 @@
-use Rattle.std.proofs.Common.{◌≡◌}
 use Rattle.server_acceptor.proofs.CarrySteps.{carries_got, carries_handed, carries_none_given, carries_placed}
 use Rattle.server_acceptor.proofs.carrying.steps_carry.Goals as goal
 
