@@ -1,0 +1,14 @@
+use Rattle.std.proofs.Common.{◌≡◌, ◌<◌, ℕ, List, true, false}
+use Rattle.std.specs.Prelude.{slice_index_or}
+use Rattle.server_acceptor.specs.Accepting.{Proceeds}
+use Rattle.server_acceptor.specs.Acceptors.{stopped_of}
+use Rattle.server_acceptor.specs.Stopping.{StopsOnly}
+use Rattle.server_acceptor.proofs.acceptor.Acceptor.send_stops.Given as goal
+
+abbrev pub invariant-loop-w : goal.invariant-loop-w
+invariant-loop-w g l = record {
+  proceeds : (listeners : List g.row.Li.Denot) (done : g.row.Do.Denot) → Proceeds g.Li.Listener.given g.Li.Listener.left g.L.Link.identity g.Li.Listener.ended g.Li.Listener.faults
+      g.Do.Done.taken g.Do.Done.count g.Do.Done.served listeners listeners l.fn.self l.self done done;
+  only : StopsOnly l.fn.self l.self;
+  got : (v : ℕ) → v < l.w → slice_index_or (stopped_of l.self) v false ≡ true;
+}

@@ -1,0 +1,175 @@
+use Rattle.std.proofs.Common.{◌<◌, [], ◌∷◌, true, false, refl, sym, ◌∙◌, ap, arith, length}
+use Rattle.std.specs.Prelude.{slice_index_or}
+use Rattle.std.specs.List.{list_all}
+use Rattle.std.proofs.Math.ListN.{length-set}
+use Rattle.std.proofs.lemmas.List.Elements.{All-nil}
+use Rattle.server_run.proofs.Progress.{adds_none}
+use Rattle.server_jobs.specs.Cards.{of_note}
+use Rattle.server_jobs.specs.declared.note.Note.TheVariants.{Ready, Back, Faulted}
+use Rattle.server_acceptor.proofs.HandSteps.{balance_same, balance_then, came_more, came_then, kept_notes, kept_then, noted_then, out_at_back, out_some, rings_then, same_ends, spare_left}
+use Rattle.server_acceptor.proofs.LogSteps.{logs_none}
+use Rattle.server_acceptor.proofs.NoteSteps.{fewer_known}
+use Rattle.server_acceptor.proofs.Taking.{all_marked, backs_more, count_as_none, count_as_one, has_still, marked_now, not_all_before, one_note, out_elsewhere, received_more, received_this, told_still}
+use Rattle.server_acceptor.proofs.acceptor.Acceptor.take_note.Goals as goal
+
+pub take-requires : goal.take-requires
+take-requires g c = out_some c.args.self.now.core.out c.args.w _ _ c.requires.number (out_at_back c.args.self.now.notes.items c.args.w _ c.index_mut.result.now c.pop_known.result _ c.in-Back.entry (omega (arith, c.requires.number, c.args.self.now.workers.1)) c.index_mut.ensures.value c.pop_known.ensures.received.1 c.in-Back.is c.requires.may) c.requires.spare
+
+pub returns-in-Back-clause-spare : goal.returns-in-Back-clause-spare
+returns-in-Back-clause-spare g c = spare_left c.args.self.now.core c.lower.new.self.core c.args.w _ _ c.requires.number (out_at_back c.args.self.now.notes.items c.args.w _ c.index_mut.result.now c.pop_known.result _ c.in-Back.entry (omega (arith, c.requires.number, c.args.self.now.workers.1)) c.index_mut.ensures.value c.pop_known.ensures.received.1 c.in-Back.is c.requires.may) c.lower.ensures.out c.lower.ensures.core_waiting c.requires.spare c.take.ensures.spare
+
+pub returns-in-Back-clause-hands : goal.returns-in-Back-clause-hands
+returns-in-Back-clause-hands g c =
+    let is = c.index_mut.ensures.value in
+    let more = c.pop_known.ensures.received.0 in
+    let inside : c.args.w < length c.args.self.now.notes.items = omega (arith, c.requires.number, c.args.self.now.workers.1) in
+    record {
+      entries = c.in-Back.entry ∷ [];
+      adds = c.take.ensures.entry;
+      rings = rings_then c.lower.new.self.notes.items c.args.self.now.notes.items c.args.w c.index_mut.result.now c.pop_known.new.self c.pop_known.result c.in-Back.entry c.lower.ensures.notes inside c.index_mut.ensures.value c.pop_known.ensures.received.0 c.in-Back.is c.pop_known.ensures.ring;
+      back = λ h. came_then c.lower.new.self.notes.items c.args.self.now.notes.items c.args.w c.index_mut.result.now c.pop_known.new.self c.pop_known.result c.in-Back.entry c.lower.ensures.notes inside c.index_mut.ensures.value c.pop_known.ensures.received.0 c.in-Back.is g.L.Link.identity h;
+      noted = noted_then c.lower.new.self.notes.items c.args.self.now.notes.items c.args.w c.index_mut.result.now c.pop_known.new.self c.pop_known.result c.in-Back.entry c.lower.ensures.notes inside c.index_mut.ensures.value c.pop_known.ensures.received.0 c.in-Back.is;
+      kept = kept_then c.lower.new.self.notes.items c.args.self.now.notes.items c.args.w c.index_mut.result.now c.pop_known.new.self c.pop_known.result c.in-Back.entry c.lower.ensures.notes inside c.index_mut.ensures.value c.pop_known.ensures.received.0 c.in-Back.is;
+      balance = balance_then c.lower.new.self.notes.items c.args.self.now.notes.items c.args.w c.index_mut.result.now c.pop_known.new.self c.pop_known.result c.in-Back.entry c.lower.ensures.notes inside c.index_mut.ensures.value c.pop_known.ensures.received.0 c.in-Back.is g.L.Link.identity c.args.self.now.core.out c.lower.new.self.core.out c.requires.number (out_at_back c.args.self.now.notes.items c.args.w _ c.index_mut.result.now c.pop_known.result _ c.in-Back.entry (omega (arith, c.requires.number, c.args.self.now.workers.1)) c.index_mut.ensures.value c.pop_known.ensures.received.1 c.in-Back.is c.requires.may) c.lower.ensures.out;
+      ended = c.lower.ensures.ended;
+      core_waiting = c.lower.ensures.core_waiting;
+      order = c.lower.ensures.order;
+      paused = c.lower.ensures.paused;
+      parcels = c.lower.ensures.parcels;
+      waiting = c.lower.ensures.waiting;
+      stopped = c.lower.ensures.stays.stopped;
+      serial = c.lower.ensures.stays.serial;
+      places = c.lower.ensures.stays.places;
+      failed = c.lower.ensures.stays.failed;
+      limit = c.lower.ensures.stays.limit;
+      retry_limit = c.lower.ensures.stays.retry_limit;
+      lacks_room = c.lower.ensures.stays.lacks_room;
+      first = c.lower.ensures.stays.first;
+      failures = c.lower.ensures.failures;
+      logs = c.lower.ensures.lowers.logs;
+      returns = c.lower.ensures.lowers.returns;
+      backs = λ v. backs_more _ _ c.args.w _ _ _ c.lower.ensures.notes inside is more g.L.Link.identity v ∙ count_as_one _ _ _ _ (ap (of_note g.L.Link.identity (λ x. 1)) c.in-Back.is) (c.lower.ensures.lowers.backs v);
+      ready = λ all. ap (λ v. list_all (λ r. r) v.items) c.lower.ensures.stays.ready ∙ all;
+      marks = λ told v on. has_still _ _ c.args.w _ _ _ c.lower.ensures.notes inside is more Ready v (told v (ap (λ r. slice_index_or r.items v false) (sym c.lower.ensures.stays.ready) ∙ on));
+      early = λ none. absurd (omega (arith, c.lower.ensures.some, c.lower.ensures.stays.serial, none));
+      receives = λ v. let e = received_more _ _ c.args.w _ _ _ c.lower.ensures.notes inside is more v in record { more = e.0; came = e.1 };
+    }
+
+pub returns-in-Ready-clause-hands : goal.returns-in-Ready-clause-hands
+returns-in-Ready-clause-hands g c =
+    let is = c.index_mut.ensures.value in
+    let more = c.pop_known.ensures.received.0 in
+    let inside : c.args.w < length c.args.self.now.notes.items = omega (arith, c.requires.number, c.args.self.now.workers.1) in
+    record {
+      entries = [];
+      adds = adds_none g.Do.Done.taken g.Do.Done.count g.Do.Done.served c.args.done.now (g.met.Do.Done.small c.args.done.now);
+      rings = same_ends _ c.args.w _ _ _ inside is more c.pop_known.ensures.ring;
+      back = λ h. came_more _ c.args.w _ _ _ inside is more g.L.Link.identity h ∙ ap (λ n. n) (omega (arith, ap (of_note g.L.Link.identity h) c.in-Ready.is));
+      noted = All-nil _;
+      kept = λ e. kept_notes _ c.args.w _ _ _ inside is more (Back e);
+      balance = balance_same _ c.args.w _ _ _ inside is more g.L.Link.identity c.args.self.now.core.out (ap (of_note g.L.Link.identity (λ x. 1)) c.in-Ready.is);
+      ended = refl;
+      core_waiting = refl;
+      order = refl;
+      paused = refl;
+      parcels = refl;
+      waiting = refl;
+      stopped = refl;
+      serial = refl;
+      places = refl;
+      failed = refl;
+      limit = refl;
+      retry_limit = refl;
+      lacks_room = refl;
+      first = refl;
+      failures = refl;
+      logs = logs_none;
+      returns = tt;
+      backs = λ v. backs_more _ _ c.args.w _ _ _ refl inside is more g.L.Link.identity v ∙ count_as_none _ _ _ (ap (of_note g.L.Link.identity (λ x. 1)) c.in-Ready.is);
+      ready = λ all. all_marked _ c.args.w all;
+      marks = λ told v on. marked_now _ _ c.args.w _ _ _ refl inside is more _ Ready (one_note _ _ c.in-Ready.is) told v on;
+      early = λ none. refl;
+      receives = λ v. let e = received_more _ _ c.args.w _ _ _ refl inside is more v in record { more = e.0; came = e.1 };
+    }
+
+pub returns-in-Faulted-clause-hands : goal.returns-in-Faulted-clause-hands
+returns-in-Faulted-clause-hands g c =
+    let is = c.index_mut.ensures.value in
+    let more = c.pop_known.ensures.received.0 in
+    let inside : c.args.w < length c.args.self.now.notes.items = omega (arith, c.requires.number, c.args.self.now.workers.1) in
+    record {
+      entries = [];
+      adds = adds_none g.Do.Done.taken g.Do.Done.count g.Do.Done.served c.args.done.now (g.met.Do.Done.small c.args.done.now);
+      rings = same_ends _ c.args.w _ _ _ inside is more c.pop_known.ensures.ring;
+      back = λ h. came_more _ c.args.w _ _ _ inside is more g.L.Link.identity h ∙ ap (λ n. n) (omega (arith, ap (of_note g.L.Link.identity h) c.in-Faulted.is));
+      noted = All-nil _;
+      kept = λ e. kept_notes _ c.args.w _ _ _ inside is more (Back e);
+      balance = balance_same _ c.args.w _ _ _ inside is more g.L.Link.identity c.args.self.now.core.out (ap (of_note g.L.Link.identity (λ x. 1)) c.in-Faulted.is);
+      ended = refl;
+      core_waiting = refl;
+      order = refl;
+      paused = refl;
+      parcels = refl;
+      waiting = refl;
+      stopped = refl;
+      serial = refl;
+      places = refl;
+      failed = refl;
+      limit = refl;
+      retry_limit = refl;
+      lacks_room = refl;
+      first = refl;
+      failures = refl;
+      logs = logs_none;
+      returns = tt;
+      backs = λ v. backs_more _ _ c.args.w _ _ _ refl inside is more g.L.Link.identity v ∙ count_as_none _ _ _ (ap (of_note g.L.Link.identity (λ x. 1)) c.in-Faulted.is);
+      ready = λ all. all;
+      marks = λ told v on. has_still _ _ c.args.w _ _ _ refl inside is more Ready v (told v on);
+      early = λ none. refl;
+      receives = λ v. let e = received_more _ _ c.args.w _ _ _ refl inside is more v in record { more = e.0; came = e.1 };
+    }
+
+pub returns-in-Back-clause-fewer : goal.returns-in-Back-clause-fewer
+returns-in-Back-clause-fewer g c = fewer_known _ c.args.self.now.notes.items c.args.w c.index_mut.result.now c.pop_known.new.self c.pop_known.result c.lower.ensures.notes (omega (arith, c.requires.number, c.args.self.now.workers.1)) c.index_mut.ensures.value c.pop_known.ensures.received.1
+
+pub returns-in-Ready-clause-fewer : goal.returns-in-Ready-clause-fewer
+returns-in-Ready-clause-fewer g c = fewer_known _ c.args.self.now.notes.items c.args.w c.index_mut.result.now c.pop_known.new.self c.pop_known.result refl (omega (arith, c.requires.number, c.args.self.now.workers.1)) c.index_mut.ensures.value c.pop_known.ensures.received.1
+
+pub returns-in-Faulted-clause-fewer : goal.returns-in-Faulted-clause-fewer
+returns-in-Faulted-clause-fewer g c = fewer_known _ c.args.self.now.notes.items c.args.w c.index_mut.result.now c.pop_known.new.self c.pop_known.result refl (omega (arith, c.requires.number, c.args.self.now.workers.1)) c.index_mut.ensures.value c.pop_known.ensures.received.1
+
+pub returns-in-Back-clause-others : goal.returns-in-Back-clause-others
+returns-in-Back-clause-others g c v differ told =
+    let inside : c.args.w < length c.args.self.now.notes.items = omega (arith, c.requires.number, c.args.self.now.workers.1) in
+    told_still c.lower.new.self.notes.items c.args.self.now.notes.items c.args.w _ _ _ c.lower.ensures.notes inside c.index_mut.ensures.value c.pop_known.ensures.received.0
+    c.args.self.now.core.out c.lower.new.self.core.out v (out_elsewhere _ _ c.args.w v c.lower.ensures.out differ) differ told
+
+pub returns-in-Ready-clause-others : goal.returns-in-Ready-clause-others
+returns-in-Ready-clause-others g c v differ told =
+    let inside : c.args.w < length c.args.self.now.notes.items = omega (arith, c.requires.number, c.args.self.now.workers.1) in
+    told_still _ c.args.self.now.notes.items c.args.w _ _ _ refl inside c.index_mut.ensures.value c.pop_known.ensures.received.0 c.args.self.now.core.out c.args.self.now.core.out v refl differ told
+
+pub returns-in-Faulted-clause-others : goal.returns-in-Faulted-clause-others
+returns-in-Faulted-clause-others g c v differ told =
+    let inside : c.args.w < length c.args.self.now.notes.items = omega (arith, c.requires.number, c.args.self.now.workers.1) in
+    told_still _ c.args.self.now.notes.items c.args.w _ _ _ refl inside c.index_mut.ensures.value c.pop_known.ensures.received.0 c.args.self.now.core.out c.args.self.now.core.out v refl differ told
+
+pub returns-in-Faulted-clause-faulted : goal.returns-in-Faulted-clause-faulted
+returns-in-Faulted-clause-faulted g c = λ _.
+    let inside : c.args.w < length c.args.self.now.notes.items = omega (arith, c.requires.number, c.args.self.now.workers.1) in
+    let e = received_this _ c.args.self.now.notes.items c.args.w _ _ _ refl inside c.index_mut.ensures.value c.pop_known.ensures.received.0 Faulted (one_note _ _ c.in-Faulted.is) in
+    record { more = e.0; came = e.1.0; faulted = e.1.1 }
+
+pub invariant_of-self-clause-early : goal.invariant_of-self-clause-early
+invariant_of-self-clause-early g c less = c.args.self.now.early (not_all_before _ c.args.w less)
+
+pub returns-in-Back-clause-logs : goal.returns-in-Back-clause-logs
+returns-in-Back-clause-logs g c = c.lower.ensures.lowers.logs
+
+pub invariant_of-self-clause-workers : goal.invariant_of-self-clause-workers
+invariant_of-self-clause-workers g c =
+    let w = c.args.self.now.workers in
+    (w.0, length-set c.args.self.now.notes.items c.args.w c.pop_known.new.self ∙ w.1, length-set c.args.self.now.ready.items c.args.w true ∙ w.2, w.3)
+
+pub lower-requires-clause-out : goal.lower-requires-clause-out
+lower-requires-clause-out g c = out_at_back c.args.self.now.notes.items c.args.w _ c.index_mut.result.now c.pop_known.result _ c.in-Back.entry (omega (arith, c.requires.number, c.args.self.now.workers.1)) c.index_mut.ensures.value c.pop_known.ensures.received.1 c.in-Back.is c.requires.may

@@ -1,0 +1,13 @@
+pub mod Accepting
+pub mod Acceptors
+pub mod Asking
+pub mod AskingListeners
+pub mod Beginning
+pub mod Carrying
+pub mod Handing
+pub mod Listening
+pub mod Logging
+pub mod Notes
+pub mod Placing
+pub mod Rings
+pub mod Stopping

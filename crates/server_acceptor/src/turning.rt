@@ -1,0 +1,124 @@
+//! A turn of the acceptor.
+ghost use Rattle.std.specs.Prelude.{◌≡◌, ◌⊎◌, ◌+◌, ◌≤◌, ◌<◌, ◌%◌, ℕ, [], None, Some, length, slice_index_or, true, false, is_some, count_by};
+ghost use Rattle.futures.specs.Task.{Keeps};
+ghost use Rattle.server_run.specs.Delivery.{given_at};
+ghost use Rattle.server_acceptor.specs.Accepting.{AcceptGoesOn, AsksInTurn, Does, EndsByFault, Finishes, HasHalted, HasTaken, IsAskedOut, IsShort, MayAsk, OnceEach, Proceeds, is_failed, refused};
+ghost use Rattle.server_acceptor.specs.Acceptors.{all_ready, events_of, first_of, lacks_room_of, listeners_of, out_of, places_of, waiting_of, workers_of};
+ghost use Rattle.server_acceptor.specs.declared.accept_turn.AcceptTurn.TheVariants.{Going, WorkerEnded, Finished as IsFinished};
+ghost use Rattle.server_acceptor.specs.declared.step.Step.TheVariants as step;
+
+use crate::accept_turn::AcceptTurn;
+use crate::acceptor::Acceptor;
+use crate::step::Step;
+use futures::task::Context;
+use server_jobs::Clock;
+use server_run::{Done, Listener};
+use service_core::Link;
+
+impl<L: Link> Acceptor<L> {
+    // Whether every worker told that its services stand.
+    fn all_ready(&self) -> bool
+        ensures { result ≡ all_ready self.now }
+    {
+        self.ready.iter().all(|ready| *ready)
+    }
+
+    #[tactic(auto, using(crate::proofs::TurnSteps::once_each))]
+    // Whether all services stand, and no room for an entry was refused.
+    fn may_accept(&self) -> bool
+        ensures yes { result ≡ true → (all_ready self.now ≡ true) × (lacks_room_of self.now ≡ false) }
+        ensures no { result ≡ false → all_ready self.now ≡ true → lacks_room_of self.now ≡ false → ⊥ }
+    {
+        if self.lacks_room {
+            return false;
+        }
+        self.all_ready()
+    }
+
+    // Takes what the workers hand back, gives them the connection that waits, and asks the listeners, once all services stand.
+    fn make_turn<Li: Listener<Link = L>, Do: Done<L>>(
+        &mut self,
+        listeners: &mut Vec<Li>,
+        now: u64,
+        done: &mut Do,
+    ) -> Step
+        requires as_many { length listeners.old.items ≡ listeners_of self.old }
+        requires given { (t : ℕ) → slice_index_or (places_of self.old) t 0 ≤ given_at Li.given listeners.old.items t }
+        requires spare { out_of self.old ≤ Do.spare done.old }
+        requires begins { events_of self.old ≡ [] }
+        ensures given { (t : ℕ) → slice_index_or (places_of self.new) t 0 ≤ given_at Li.given listeners.new.items t }
+        ensures spare { out_of self.new ≤ Do.spare done.new }
+        ensures proceeds { Proceeds Li.given Li.left L.identity Li.ended Li.faults Do.taken Do.count Do.served listeners.old.items listeners.new.items self.old self.new done.old done.new }
+        ensures first { first_of self.new ≡ first_of self.old }
+        ensures once { OnceEach (events_of self.new) }
+        ensures in_turn { AsksInTurn Li.given Li.waits Li.skips listeners.old.items listeners.new.items self.old self.new now }
+        ensures on { result ≡ step.On → ⊥ }
+        ensures settled { result ≡ step.Settled → MayAsk self.new
+            × (all_ready self.new ≡ true → lacks_room_of self.new ≡ false → (t : ℕ) → t < listeners_of self.new
+            → IsAskedOut Li.given Li.waits Li.skips listeners.old.items listeners.new.items self.new now t) }
+        ensures halted { result ≡ step.Halted → HasHalted self.new }
+        ensures ended { (w : ℕ) → result ≡ step.WorkerEnded w → (w < workers_of self.new) × EndsByFault self.old self.new w }
+    {
+        if let Some(w) = self.take_notes(done) {
+            return Step::WorkerEnded(w);
+        }
+        match self.place_one::<Li, Do>(done) {
+            Step::On => {}
+            step => return step,
+        }
+        if !self.may_accept() {
+            return Step::Settled;
+        }
+        self.ask_all(listeners, now, done)
+    }
+
+    /// Takes what the workers hand back, gives a worker the connection that waits, and asks the listeners in turn, once all services
+    /// stand (a turn of `actix-server`'s `Accept`). `events` tells what happened.
+    ///
+    /// Room for all connections that are at workers, and for one more, stands in `done` before each accept. A listener is asked at most
+    /// 256 times, none while a connection waits, and one that failed not before 500 ms have gone by on the clock.
+    ///
+    /// It is `WorkerEnded` where a worker told that it ends by a fault, and `Finished` once nothing more comes, nothing is out, and
+    /// each worker got its stop. Else it is `Going`.
+    pub fn turn<Li, Cl, Do>(
+        &mut self,
+        cx: &mut Context<'_>,
+        listeners: &mut Vec<Li>,
+        clock: &mut Cl,
+        done: &mut Do,
+    ) -> AcceptTurn
+    where
+        Li: Listener<Link = L>,
+        Cl: Clock,
+        Do: Done<L>,
+        requires as_many { length listeners.old.items ≡ listeners_of self.old }
+        requires given { (t : ℕ) → slice_index_or (places_of self.old) t 0 ≤ given_at Li.given listeners.old.items t }
+        requires spare { out_of self.old ≤ Do.spare done.old }
+        ensures kept { Keeps cx.old cx.new }
+        ensures given { (t : ℕ) → slice_index_or (places_of self.new) t 0 ≤ given_at Li.given listeners.new.items t }
+        ensures spare { out_of self.new ≤ Do.spare done.new }
+
+        // Its events tell what it did with the listeners, the rings and `done`: each connection that came is on a ring, waits or was
+        // handed on, once.
+        ensures does { Does Li.given Li.left L.identity Li.ended Li.faults Do.taken Do.count Do.served listeners.old.items listeners.new.items self.old self.new done.old done.new (events_of self.new) }
+        ensures once { OnceEach (events_of self.new) }
+
+        // Each listener is asked in its turn, and another one first in the next turn.
+        ensures in_turn { AsksInTurn Li.given Li.waits Li.skips listeners.old.items listeners.new.items self.old self.new (Cl.told clock.new) }
+        ensures first { first_of self.new ≡ (first_of self.old + 1) % listeners_of self.old }
+
+        // It goes on only where it waits for something, or has no room for more events.
+        ensures going { result ≡ Going → IsShort self.new ⊎ AcceptGoesOn Li.given Li.waits Li.skips listeners.old.items listeners.new.items self.new (Cl.told clock.new) }
+        ensures worker_ended { (w : ℕ) → result ≡ WorkerEnded w → (w < workers_of self.new) × EndsByFault self.old self.new w }
+        ensures finished { (end : _) → result ≡ IsFinished end → Finishes self.new end }
+    {
+        self.events.clear();
+        let now = clock.now();
+        let step = self.make_turn(listeners, now, done);
+        self.first = (self.first + 1) % self.places.len();
+        if let Step::WorkerEnded(w) = step {
+            return AcceptTurn::WorkerEnded(w);
+        }
+        self.come_to::<Li, Do>()
+    }
+}
