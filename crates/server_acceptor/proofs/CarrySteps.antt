@@ -1,6 +1,6 @@
 -- That what came from the listeners is carried on, step by step.
-use Rattle.std.proofs.Common.{◌≡◌, ◌≢◌, ℕ, zero, suc, ◌+◌, ◌-◌, ◌==◌, ◌&&◌, ◌<◌, ◌≤◌, Bool, true, false, true≢false, cond, List, [], ◌∷◌, ◌++◌, length, map, get_or, set, drop, sum_by, All, Any, Contains, Option, Some, None, IfSome, refl, sym, ap, ap₂, subst, ◌∙◌, arith, inl, inr, get_or-set_same, get_or-set_other}
-use Rattle.std.specs.Prelude.{slice_get, slice_set, slice_index, slice_index_or}
+use Rattle.std.proofs.Common.{◌≡◌, ◌≢◌, ℕ, zero, suc, ◌+◌, ◌-◌, ◌==◌, ◌&&◌, ◌<◌, true, false, cond, List, [], ◌∷◌, ◌++◌, length, map, drop, sum_by, All, Any, Contains, Option, IfSome, refl, sym, ap, ap₂, subst, ◌∙◌, arith, inl, inr, get_or-set_same, get_or-set_other}
+use Rattle.std.specs.Prelude.{slice_set, slice_index, slice_index_or}
 use Rattle.std.specs.Option.{option_map, option_map_or}
 use Rattle.std.proofs.lemmas.Bool.{cases_eq}
 use Rattle.std.proofs.lemmas.Bool.Decides.{nat_tests}
@@ -12,23 +12,20 @@ use Rattle.rtrb.specs.declared.producer.Producer.{Producer}
 use Rattle.service_core.specs.Link.{Identity}
 use Rattle.server_run.specs.Delivery.{given_at, left_at, once_below, rise}
 use Rattle.server_run.specs.declared.entry.Entry.{Entry}
-use Rattle.server_jobs.specs.Cards.{Card, of_entry, of_note, of_parcel, of_waiting}
+use Rattle.server_jobs.specs.Cards.{Card, of_entry, of_parcel}
 use Rattle.server_acceptor.specs.Carrying.{Carries, IsInPlace, ParcelIsInPlace, came_back, each, has_place, has_serial, in_waiting, put}
-use Rattle.server_run.specs.Listener.{IsTakenFrom}
 use Rattle.server_run.proofs.Lists.{first_left, once_below-more}
 use Rattle.server_acceptor.specs.AskingListeners.{AsksOnly, TakesUp}
 use Rattle.server_acceptor.specs.Listening.{AsksAt, Gives, GivesNone}
 use Rattle.server_acceptor.specs.Handing.{Hands}
 use Rattle.server_acceptor.specs.Notes.{count_back}
-use Rattle.server_acceptor.specs.Placing.{parcel_of, IsPlaced, KeepsSent, NoneWaits, PutsAt, Stays, StillWaits, WasSent}
+use Rattle.server_acceptor.specs.Placing.{parcel_of, IsPlaced, KeepsSent, PutsAt, Stays, WasSent}
 use Rattle.server_acceptor.specs.Rings.{count_put, ring_in}
 use Rattle.server_acceptor.specs.declared.placed.Placed.{Placed}
 use Rattle.server_acceptor.specs.declared.placed.Placed.TheVariants.{Sent, Waiting, Nothing}
 use Rattle.server_acceptor.specs.declared.acceptor.Acceptor.{Acceptor}
 use Rattle.server_jobs.specs.declared.note.Note.TheVariants.{Back}
 use Rattle.server_jobs.specs.declared.parcel.Parcel.{Parcel}
-use Rattle.server_jobs.specs.declared.parcel.Parcel.TheVariants.{Conn, Stop}
-use Rattle.server_jobs.specs.declared.waiting.Waiting.{Waiting as IsWaiting}
 
 -- ---- what was sent on the rings, seen as lists
 sum_map : {X Y : Type 0} (f : Y → ℕ) (h : X → Y) (xs : List X) → sum_by (λ x. f (h x)) xs ≡ sum_by f (map h xs)
@@ -55,9 +52,14 @@ module _ {L A P : Type 0} (identity : L → Identity) where
   put_kept h ps qs k = put_as h qs ∙ ap (sum_by (λ xs. sum_by (of_parcel identity h) xs)) k.sent_on ∙ sym (put_as h ps)
 
   pub put_more : (h : Card → ℕ) (ps qs : List (Producer (Parcel L) A P)) (w : ℕ) (item : Parcel L) → PutsAt ps qs w item → put identity h qs ≡ put identity h ps + of_parcel identity h item
-  put_more h ps qs w item p = omega (arith, put_as h qs, put_as h ps, ap (sum_by (λ xs. sum_by (of_parcel identity h) xs)) p.sent_on,
-      sum_by-set (λ xs. sum_by (of_parcel identity h) xs) (map (λ p. sent p) ps) w (slice_index_or (map (λ p. sent p) ps) w [] ++ item ∷ []) [] (omega (arith, p.inside, length_mapped (λ p. sent p) ps)),
-      sum_by_push (of_parcel identity h) (slice_index_or (map (λ p. sent p) ps) w []) item)
+  put_more h ps qs w item p = omega (
+    arith,
+    put_as h qs,
+    put_as h ps,
+    ap (sum_by (λ xs. sum_by (of_parcel identity h) xs)) p.sent_on,
+    sum_by-set (λ xs. sum_by (of_parcel identity h) xs) (map (λ p. sent p) ps) w (slice_index_or (map (λ p. sent p) ps) w [] ++ item ∷ []) [] (omega (arith, p.inside, length_mapped (λ p. sent p) ps)),
+    sum_by_push (of_parcel identity h) (slice_index_or (map (λ p. sent p) ps) w []) item,
+  )
 
   count_as : (ps : List (Producer (Parcel L) A P)) (w : ℕ) → count_put identity ps w ≡ sum_by (of_parcel identity (λ c. 1)) (slice_index_or (map (λ p. sent p) ps) w [])
   count_as [] w = refl
@@ -72,13 +74,26 @@ module _ {L A P : Type 0} (identity : L → Identity) where
   count_sent ps qs w v item before after p one within is =
       let now = ap (λ xs. sum_by (of_parcel identity (λ c. 1)) (slice_index_or xs v [])) p.sent_on in
       elim (cases_eq v w) [
-        | inl same ↦ rw same (omega (arith, count_as qs w, count_as ps w, one, ap (λ xs. sum_by (of_parcel identity (λ c. 1)) (slice_index_or xs w [])) p.sent_on,
-            ap (sum_by (of_parcel identity (λ c. 1))) (get_or-set_same (map (λ p. sent p) ps) w (slice_index_or (map (λ p. sent p) ps) w [] ++ item ∷ []) [] (omega (arith, p.inside, length_mapped (λ p. sent p) ps))),
-            sum_by_push (of_parcel identity (λ c. 1)) (slice_index_or (map (λ p. sent p) ps) w []) item,
-            ap (λ xs. slice_index xs w) is, get_or-set_same before w (slice_index before w + 1) 0 within))
-        | inr other ↦ omega (arith, count_as qs v, count_as ps v, now,
-            ap (sum_by (of_parcel identity (λ c. 1))) (get_or-set_other (map (λ p. sent p) ps) w v (slice_index_or (map (λ p. sent p) ps) w [] ++ item ∷ []) [] other),
-            ap (λ xs. slice_index xs v) is, get_or-set_other before w v (slice_index before w + 1) 0 other)
+        | inl same ↦ rw same (omega (
+          arith,
+          count_as qs w,
+          count_as ps w,
+          one,
+          ap (λ xs. sum_by (of_parcel identity (λ c. 1)) (slice_index_or xs w [])) p.sent_on,
+          ap (sum_by (of_parcel identity (λ c. 1))) (get_or-set_same (map (λ p. sent p) ps) w (slice_index_or (map (λ p. sent p) ps) w [] ++ item ∷ []) [] (omega (arith, p.inside, length_mapped (λ p. sent p) ps))),
+          sum_by_push (of_parcel identity (λ c. 1)) (slice_index_or (map (λ p. sent p) ps) w []) item,
+          ap (λ xs. slice_index xs w) is,
+          get_or-set_same before w (slice_index before w + 1) 0 within,
+        ))
+        | inr other ↦ omega (
+          arith,
+          count_as qs v,
+          count_as ps v,
+          now,
+          ap (sum_by (of_parcel identity (λ c. 1))) (get_or-set_other (map (λ p. sent p) ps) w v (slice_index_or (map (λ p. sent p) ps) w [] ++ item ∷ []) [] other),
+          ap (λ xs. slice_index xs v) is,
+          get_or-set_other before w v (slice_index before w + 1) 0 other,
+        )
       ]
 
   -- what weighs nothing does not count
@@ -86,11 +101,22 @@ module _ {L A P : Type 0} (identity : L → Identity) where
   count_nothing ps qs w v item p none =
       let now = ap (λ xs. sum_by (of_parcel identity (λ c. 1)) (slice_index_or xs v [])) p.sent_on in
       elim (cases_eq v w) [
-        | inl same ↦ rw same (omega (arith, count_as qs w, count_as ps w, none, ap (λ xs. sum_by (of_parcel identity (λ c. 1)) (slice_index_or xs w [])) p.sent_on,
-            ap (sum_by (of_parcel identity (λ c. 1))) (get_or-set_same (map (λ p. sent p) ps) w (slice_index_or (map (λ p. sent p) ps) w [] ++ item ∷ []) [] (omega (arith, p.inside, length_mapped (λ p. sent p) ps))),
-            sum_by_push (of_parcel identity (λ c. 1)) (slice_index_or (map (λ p. sent p) ps) w []) item))
-        | inr other ↦ omega (arith, count_as qs v, count_as ps v, now,
-            ap (sum_by (of_parcel identity (λ c. 1))) (get_or-set_other (map (λ p. sent p) ps) w v (slice_index_or (map (λ p. sent p) ps) w [] ++ item ∷ []) [] other))
+        | inl same ↦ rw same (omega (
+          arith,
+          count_as qs w,
+          count_as ps w,
+          none,
+          ap (λ xs. sum_by (of_parcel identity (λ c. 1)) (slice_index_or xs w [])) p.sent_on,
+          ap (sum_by (of_parcel identity (λ c. 1))) (get_or-set_same (map (λ p. sent p) ps) w (slice_index_or (map (λ p. sent p) ps) w [] ++ item ∷ []) [] (omega (arith, p.inside, length_mapped (λ p. sent p) ps))),
+          sum_by_push (of_parcel identity (λ c. 1)) (slice_index_or (map (λ p. sent p) ps) w []) item,
+        ))
+        | inr other ↦ omega (
+          arith,
+          count_as qs v,
+          count_as ps v,
+          now,
+          ap (sum_by (of_parcel identity (λ c. 1))) (get_or-set_other (map (λ p. sent p) ps) w v (slice_index_or (map (λ p. sent p) ps) w [] ++ item ∷ []) [] other),
+        )
       ]
 
 module _ {L : Type 0} (Q : Parcel L → Type 0) where
@@ -107,15 +133,15 @@ module _ {L A P : Type 0} (Q : Parcel L → Type 0) where
   all_sent_on ps qs w item p q all =
       let before = all_to_map (All Q) (λ p. sent p) ps all in
       all_of_map (All Q) (λ p. sent p) qs (subst (All (All Q)) (sym p.sent_on)
-        (All-set (All Q) (map (λ p. sent p) ps) w (slice_index_or (map (λ p. sent p) ps) w [] ++ item ∷ [])
-          (All-push Q (slice_index_or (map (λ p. sent p) ps) w []) item (all_index Q (map (λ p. sent p) ps) w before) q) before))
+      (All-set (All Q) (map (λ p. sent p) ps) w (slice_index_or (map (λ p. sent p) ps) w [] ++ item ∷ [])
+      (All-push Q (slice_index_or (map (λ p. sent p) ps) w []) item (all_index Q (map (λ p. sent p) ps) w before) q) before))
 
 module _ {Li L : Type 0} (given : Li → ℕ) (left : Li → Option (List L)) (identity : L → Identity) (first now : List Li) where
   -- a connection went from where it waits to a worker
   sent_on : (a b : Acceptor L) (entries : List (Entry L)) (w : ℕ) → w < length a.core.out → Stays a b → WasSent a b w → Carries given left identity first now a entries → Carries given left identity first now b entries
   sent_on a b entries w within s p c =
       let weigh : (h : Card → ℕ) → put identity h b.parcels.items + in_waiting identity h b.waiting ≡ put identity h a.parcels.items + in_waiting identity h a.waiting =
-          λ h. omega (arith, put_more identity h a.parcels.items b.parcels.items w (parcel_of p.placed) p.rings, ap (in_waiting identity h) p.was, ap (in_waiting identity h) p.waiting) in
+      λ h. omega (arith, put_more identity h a.parcels.items b.parcels.items w (parcel_of p.placed) p.rings, ap (in_waiting identity h) p.was, ap (in_waiting identity h) p.waiting) in
       record {
         count = weigh (λ c. 1) ∙ c.count ∙ sym s.serial;
         serials = λ k. weigh (each (has_serial k)) ∙ c.serials k ∙ ap (λ n. once_below n k) (sym s.serial);
@@ -127,8 +153,12 @@ module _ {Li L : Type 0} (given : Li → ℕ) (left : Li → Option (List L)) (i
         next_places = λ t below. ap (λ v. slice_index_or v.items t 0) s.places ∙ c.next_places t (subst (λ v. t < length v.items) s.places below);
         back = λ h. ap (λ v. came_back identity h v.items) s.notes ∙ c.back h;
         noted = subst (λ v. All (λ e. Any (λ r. Contains (received r) (Back e)) v.items) entries) (sym s.notes) c.noted;
-        out = λ v. omega (arith, c.out v, count_sent identity a.parcels.items b.parcels.items w v (parcel_of p.placed) a.core.out b.core.out p.rings refl within p.out,
-            ap (λ n. count_back identity n.items v) s.notes);
+        out = λ v. omega (
+          arith,
+          c.out v,
+          count_sent identity a.parcels.items b.parcels.items w v (parcel_of p.placed) a.core.out b.core.out p.rings refl within p.out,
+          ap (λ n. count_back identity n.items v) s.notes,
+        );
       }
 
   -- nothing moved
@@ -136,7 +166,7 @@ module _ {Li L : Type 0} (given : Li → ℕ) (left : Li → Option (List L)) (i
       → Carries given left identity first now a entries → Carries given left identity first now b entries
   kept_on a b entries s k waiting out c =
       let weigh : (h : Card → ℕ) → put identity h b.parcels.items + in_waiting identity h b.waiting ≡ put identity h a.parcels.items + in_waiting identity h a.waiting =
-          λ h. omega (arith, put_kept identity h a.parcels.items b.parcels.items k, ap (in_waiting identity h) waiting) in
+      λ h. omega (arith, put_kept identity h a.parcels.items b.parcels.items k, ap (in_waiting identity h) waiting) in
       record {
         count = weigh (λ c. 1) ∙ c.count ∙ sym s.serial;
         serials = λ k. weigh (each (has_serial k)) ∙ c.serials k ∙ ap (λ n. once_below n k) (sym s.serial);
@@ -161,7 +191,7 @@ module _ {Li L : Type 0} (given : Li → ℕ) (left : Li → Option (List L)) (i
       → (hands : Hands identity taken count served a b old new) → Carries given left identity first now a entries → Carries given left identity first now b (entries ++ hands.entries)
   carries_handed taken count served a b old new entries k c =
       let weigh : (h : Card → ℕ) → put identity h b.parcels.items + in_waiting identity h b.waiting ≡ put identity h a.parcels.items + in_waiting identity h a.waiting =
-          λ h. ap₂ (λ v o. put identity h v.items + in_waiting identity h o) k.parcels k.waiting in
+      λ h. ap₂ (λ v o. put identity h v.items + in_waiting identity h o) k.parcels k.waiting in
       record {
         count = weigh (λ c. 1) ∙ c.count ∙ sym k.serial;
         serials = λ i. weigh (each (has_serial i)) ∙ c.serials i ∙ ap (λ n. once_below n i) (sym k.serial);
@@ -179,23 +209,23 @@ module _ {Li L : Type 0} (given : Li → ℕ) (left : Li → Option (List L)) (i
 -- ---- asking a listener
 same_rise : {Li : Type 0} (given : Li → ℕ) (first now then : List Li) (t : ℕ) → AsksAt now then t → given_at given then t ≡ given_at given now t → (v : ℕ) → given_at given then v ≡ given_at given now v
 same_rise given first now then t a e v = elim (cases_eq v t) [
-    | inl same ↦ rw same e
-    | inr other ↦ ap (λ o. option_map_or given o 0) (a.others v other)
-  ]
+  | inl same ↦ rw same e
+  | inr other ↦ ap (λ o. option_map_or given o 0) (a.others v other)
+]
 
 module _ {Li L : Type 0} (given : Li → ℕ) (left : Li → Option (List L)) (identity : L → Identity) (first now then : List Li) (t : ℕ) where
   same_left : GivesNone given left now then t → (v : ℕ) → left_at left then v ≡ left_at left now v
   same_left n v = elim (cases_eq v t) [
-      | inl same ↦ rw same n.left_same
-      | inr other ↦ rw (n.asks.others v other) refl
-    ]
+    | inl same ↦ rw same n.left_same
+    | inr other ↦ rw (n.asks.others v other) refl
+  ]
 
   -- it gave none
   pub carries_none_given : (a b : Acceptor L) (entries : List (Entry L)) → GivesNone given left now then t → AsksOnly a b → b.waiting ≡ a.waiting → b.serial ≡ a.serial → b.places ≡ a.places
       → Carries given left identity first now a entries → Carries given left identity first then b entries
   carries_none_given a b entries n s waiting serial places c =
       let weigh : (h : Card → ℕ) → put identity h b.parcels.items + in_waiting identity h b.waiting ≡ put identity h a.parcels.items + in_waiting identity h a.waiting =
-          λ h. ap₂ (λ v o. put identity h v.items + in_waiting identity h o) s.parcels waiting in
+      λ h. ap₂ (λ v o. put identity h v.items + in_waiting identity h o) s.parcels waiting in
       let same : (v : ℕ) → given_at given then v ≡ given_at given now v = same_rise given first now then t n.asks n.given_same in
       let rises_same : (v : ℕ) → rise given first then v ≡ rise given first now v = λ v. ap (λ m. m - given_at given first v) (same v) in
       record {
@@ -217,7 +247,7 @@ module _ {Li L : Type 0} (given : Li → ℕ) (left : Li → Option (List L)) (i
       → Carries given left identity first now a entries → Carries given left identity first then b entries
   carries_got a b entries link n s u c =
       let weigh : (h : Card → ℕ) → put identity h b.parcels.items + in_waiting identity h b.waiting ≡ (put identity h a.parcels.items + in_waiting identity h a.waiting) + h (record { serial = a.serial; token = t; place = slice_index_or a.places.items t 0; identity = identity link }) =
-          λ h. omega (arith, ap (λ v. put identity h v.items) s.parcels, ap (in_waiting identity h) u.waiting, ap (in_waiting identity h) u.none) in
+      λ h. omega (arith, ap (λ v. put identity h v.items) s.parcels, ap (in_waiting identity h) u.waiting, ap (in_waiting identity h) u.none) in
       let more : rise given first then t ≡ rise given first now t + 1 = omega (arith, n.given_more, c.rises t) in
       let place_is : slice_index_or a.places.items t 0 ≡ rise given first now t = c.next_places t u.inside in
       let other_rise : (v : ℕ) → v ≢ t → rise given first then v ≡ rise given first now v = λ v other. ap (λ o. option_map_or given o 0 - given_at given first v) (n.asks.others v other) in

@@ -1,26 +1,21 @@
 -- How what waits goes to a worker, and what the core makes of it.
-use Rattle.std.proofs.Common.{◌≡◌, ◌≢◌, ℕ, zero, suc, ◌+◌, ◌*◌, ◌<◌, ◌≤◌, Bool, true, false, true≢false, cond, List, [], ◌∷◌, ◌++◌, length, map, get_or, set, Option, Some, None, refl, sym, ap, ap₂, subst, ◌∙◌, arith, append_assoc, append-nil, length-append, nat_lt, inl, inr, get_or-set_same, get_or-set_other}
+use Rattle.std.proofs.Common.{◌≡◌, ◌≢◌, ℕ, zero, suc, ◌+◌, ◌<◌, ◌≤◌, Bool, true, false, cond, List, [], ◌∷◌, ◌++◌, length, map, get_or, set, Option, Some, refl, sym, ap, subst, ◌∙◌, arith, nat_lt, inl, inr, get_or-set_same, get_or-set_other}
 use Rattle.std.proofs.lemmas.List.Sums.{sum_by-set}
-use Rattle.std.specs.Prelude.{sum, ◌^◌, ◌&&◌, ◌||◌, ◌==◌, not, find, nat_eq, is_some, is_none, IfSome, slice_get, slice_set, slice_index, slice_index_or, vec_len}
-use Rattle.std.specs.List.{list_any, IsDistinct}
-use Rattle.std.specs.Option.{option_map}
+use Rattle.std.specs.Prelude.{sum, ◌^◌, ◌&&◌, ◌||◌, not, nat_eq, is_some, IfSome, slice_get, slice_set, slice_index, slice_index_or}
 use Rattle.std.specs.FinSet as set
 use Rattle.std.specs.FinSet.{contains-insert, contains-remove}
-use Rattle.std.specs.Cmp.{nat_cmp_total, unsigned_tied, nat_eq_equiv}
+use Rattle.std.specs.Cmp.{nat_cmp_total, unsigned_tied}
 use Rattle.std.proofs.lemmas.Bool.Decides.{nat_tests}
 use Rattle.std.proofs.lemmas.Bool.{cases_eq}
 use Rattle.std.proofs.lemmas.List.{map-set}
 use Rattle.std.proofs.Math.ListN.{length-set}
 use Rattle.std.proofs.Math.Seq.{map-set_same}
-use Rattle.std.proofs.lemmas.Option.{slice_get_within, slice_get-get_or, get_or_from_slice_get, slice_get_past}
+use Rattle.std.proofs.lemmas.Option.{slice_get-get_or}
 use Rattle.rtrb.specs.Ring.{known_free, sent, SameProducer}
 use Rattle.rtrb.specs.declared.producer.Producer.{Producer}
-use Rattle.server_core.specs.Numbers.{Numbers, with_mark}
-use Rattle.server_core.specs.Core.{Core, IsKept, allowed, first_free, in_order, is_at, is_worker, may_place, picked, round, behind, step}
-use Rattle.server_core.specs.declared.event.Event.{Event}
+use Rattle.server_core.specs.Numbers.{Numbers}
+use Rattle.server_core.specs.Core.{Core, IsKept, first_free, in_order, is_at, is_worker, may_place, step}
 use Rattle.server_core.specs.declared.event.Event.TheVariants.{RingFull, Notice, Sent}
-use Rattle.server_core.proofs.Picks.{finds, in_round}
-use Rattle.server_core.proofs.Orders.{true_or, and_left}
 use Rattle.server_acceptor.specs.Rings.{ring_in}
 use Rattle.rtrb.specs.declared.errors.PushError.TheVariants.{Full}
 use Rattle.server_acceptor.specs.Placing.{parcel_of, waits_of, HasNoPlace, KeepsSent, PutsAt}
@@ -101,10 +96,10 @@ full_then s w = let e : nat_eq w w ≡ true = grind (arith, nat_tests) in contai
 pub free_again : (s : Core) (w : ℕ) → in_order s.order w ≡ true → set.contains s.free w ≡ true → (v : ℕ) → set.contains (step (step s (RingFull w)) (Notice w)).free v ≡ set.contains s.free v
 free_again s w there free v =
     rw there (contains_inserted (set.remove s.free w) w v ∙ ap (λ b. nat_eq v w || b) (contains_removed s.free w v)
-      ∙ elim (nat_eq v w) as (λ b. nat_eq v w ≡ b → (b || (not b && set.contains s.free v)) ≡ set.contains s.free v) [
-        | true ↦ λ t. sym (ap (λ x. set.contains s.free x) (same_number v w t) ∙ free)
-        | false ↦ λ _. refl
-      ] refl)
+    ∙ elim (nat_eq v w) as (λ b. nat_eq v w ≡ b → (b || (not b && set.contains s.free v)) ≡ set.contains s.free v) [
+      | true ↦ λ t. sym (ap (λ x. set.contains s.free x) (same_number v w t) ∙ free)
+      | false ↦ λ _. refl
+    ] refl)
 
 abbrev pub IsRuled : Core → ℕ → Type 0
 IsRuled s limit = (v : ℕ) → in_order s.order v ≡ true → set.contains s.free v ≡ nat_lt (slice_index s.out v) limit

@@ -1,6 +1,6 @@
 -- That stops on the rings carry no connection.
-use Rattle.std.proofs.Common.{◌≡◌, ◌^◌, ◌<◌, ◌≤◌, ◌⊎◌, ◌++◌, ◌∷◌, [], ℕ, ◌+◌, Bool, true, false, List, length, map, All, Any, Contains, Option, Some, None, IfSome, refl, sym, ◌∙◌, ap, ap₂, arith, subst, inl, inr}
-use Rattle.std.specs.Prelude.{◌&&◌, not, nat_lt, slice_get, slice_index, slice_index_or, slice_set}
+use Rattle.std.proofs.Common.{◌≡◌, ◌^◌, ◌<◌, ◌⊎◌, [], ℕ, ◌+◌, Bool, true, false, List, length, map, All, Any, Contains, Option, IfSome, refl, sym, ◌∙◌, ap, ap₂, arith, subst, inl, inr}
+use Rattle.std.specs.Prelude.{◌&&◌, not, nat_lt, slice_get, slice_index, slice_index_or}
 use Rattle.std.proofs.lemmas.Bool.{cases_eq}
 use Rattle.std.proofs.lemmas.Bool.Decides.{nat_tests}
 use Rattle.std.proofs.lemmas.List.{append-nil, get_or_default}
@@ -18,7 +18,7 @@ use Rattle.server_jobs.specs.Cards.{Card}
 use Rattle.server_jobs.specs.declared.note.Note.TheVariants.{Back, Ready}
 use Rattle.server_jobs.specs.declared.parcel.Parcel.{Parcel}
 use Rattle.server_jobs.specs.declared.parcel.Parcel.TheVariants.{Stop}
-use Rattle.server_acceptor.specs.Accepting.{Does, Proceeds, received_at}
+use Rattle.server_acceptor.specs.Accepting.{Proceeds, received_at}
 use Rattle.server_acceptor.specs.Acceptors.{events_of}
 use Rattle.server_acceptor.specs.Carrying.{Carries, IsInPlace, ParcelIsInPlace, came_back, each, has_place, has_serial, in_waiting, put}
 use Rattle.server_acceptor.specs.Notes.{count_back}
@@ -38,8 +38,17 @@ stops_none a = record { core = refl; events = refl; notes = refl; ready = refl; 
 
 pub stops_trans : {L : Type 0} (a b c : Acceptor L) → StopsOnly a b → StopsOnly b c → StopsOnly a c
 stops_trans a b c p q = record {
-  core = q.core ∙ p.core; events = q.events ∙ p.events; notes = q.notes ∙ p.notes; ready = q.ready ∙ p.ready; waiting = q.waiting ∙ p.waiting; serial = q.serial ∙ p.serial;
-  places = q.places ∙ p.places; failed = q.failed ∙ p.failed; first = q.first ∙ p.first; retry_limit = q.retry_limit ∙ p.retry_limit; lacks_room = q.lacks_room ∙ p.lacks_room;
+  core = q.core ∙ p.core;
+  events = q.events ∙ p.events;
+  notes = q.notes ∙ p.notes;
+  ready = q.ready ∙ p.ready;
+  waiting = q.waiting ∙ p.waiting;
+  serial = q.serial ∙ p.serial;
+  places = q.places ∙ p.places;
+  failed = q.failed ∙ p.failed;
+  first = q.first ∙ p.first;
+  retry_limit = q.retry_limit ∙ p.retry_limit;
+  lacks_room = q.lacks_room ∙ p.lacks_room;
 }
 
 module _ {L : Type 0} (identity : L → Identity) (ps qs : List (Producer (Parcel L) Global AnyItems)) where
@@ -59,7 +68,7 @@ module _ {Li L : Type 0} (given : Li → ℕ) (left : Li → Option (List L)) (i
   carries_stop : (a b : Acceptor L) (entries : List (Entry L)) → StopsOnly a b → PutsStop a.parcels.items b.parcels.items → Carries given left identity first now a entries → Carries given left identity first now b entries
   carries_stop a b entries s p c =
       let weigh : (h : Card → ℕ) → put identity h b.parcels.items + in_waiting identity h b.waiting ≡ put identity h a.parcels.items + in_waiting identity h a.waiting =
-          λ h. omega (arith, put_same identity a.parcels.items b.parcels.items h p, ap (in_waiting identity h) s.waiting) in
+      λ h. omega (arith, put_same identity a.parcels.items b.parcels.items h p, ap (in_waiting identity h) s.waiting) in
       record {
         count = weigh (λ c. 1) ∙ c.count ∙ sym s.serial;
         serials = λ k. weigh (each (has_serial k)) ∙ c.serials k ∙ ap (λ n. once_below n k) (sym s.serial);
@@ -120,9 +129,9 @@ module _ {Li L D : Type 0} (given : Li → ℕ) (left : Li → Option (List L)) 
 pub got_more : (xs ys : List Bool) (n : ℕ) → ((v : ℕ) → v < n → slice_index_or xs v false ≡ true) → ((v : ℕ) → slice_index_or xs v false ≡ true → slice_index_or ys v false ≡ true)
     → slice_index_or ys n false ≡ true → (v : ℕ) → v < n + 1 → slice_index_or ys v false ≡ true
 got_more xs ys n got others this v below = elim (cases_eq v n) [
-    | inl same ↦ rw same this
-    | inr other ↦ others v (got v (omega arith))
-  ]
+  | inl same ↦ rw same this
+  | inr other ↦ others v (got v (omega arith))
+]
 
 pub all_got : (xs : List Bool) (n : ℕ) → length xs ≡ n → ((v : ℕ) → v < n → slice_index_or xs v false ≡ true) → All (λ s. s ≡ true) xs
 all_got xs n many got v d inside = get_or_default xs v d false inside ∙ got v (omega arith)
@@ -139,9 +148,9 @@ has_ended s t inside closed = let e : nat_lt t (length s.ended) ≡ true = grind
 
 pub all_below : (P : ℕ → Type 0) (n : ℕ) → ((u : ℕ) → u < n → P u) → P n → (u : ℕ) → u < n + 1 → P u
 all_below P n below this u less = elim (cases_eq u n) [
-    | inl same ↦ rw same this
-    | inr other ↦ below u (omega arith)
-  ]
+  | inl same ↦ rw same this
+  | inr other ↦ below u (omega arith)
+]
 
 and_false : (c : Bool) → (c && false) ≡ false
 and_false true = refl

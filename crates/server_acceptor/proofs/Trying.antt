@@ -1,7 +1,7 @@
 -- The workers that were tried in vain, while a connection is placed.
-use Rattle.std.proofs.Common.{◌≡◌, ◌≢◌, ℕ, zero, suc, ◌+◌, ◌*◌, ◌<◌, ◌≤◌, Bool, true, false, true≢false, cond, List, [], ◌∷◌, ◌++◌, length, map, get_or, set, Option, Some, None, refl, sym, ap, ap₂, subst, ◌∙◌, arith, append_assoc, append-nil, length-append, nat_lt, All}
-use Rattle.std.specs.Prelude.{◌&&◌, ◌||◌, ◌==◌, ◌↔◌, not, find, nat_eq, is_some, IfSome, slice_set, slice_index, slice_index_or}
-use Rattle.std.specs.List.{list_any, IsDistinct}
+use Rattle.std.proofs.Common.{◌≡◌, ℕ, suc, ◌+◌, ◌*◌, ◌<◌, ◌≤◌, Bool, true, false, true≢false, cond, List, [], ◌∷◌, ◌++◌, length, map, set, Option, Some, None, refl, sym, ap, ap₂, subst, ◌∙◌, arith, append_assoc, append-nil, length-append, All}
+use Rattle.std.specs.Prelude.{◌&&◌, ◌||◌, ◌==◌, not, find, nat_eq, is_some, slice_set, slice_index, slice_index_or}
+use Rattle.std.specs.List.{IsDistinct}
 use Rattle.std.specs.Option.{option_map}
 use Rattle.std.specs.Ordering.{nat_cmp}
 use Rattle.std.specs.FinSet as set
@@ -12,13 +12,13 @@ use Rattle.std.proofs.lemmas.List.Folds.{list_any-append}
 use Rattle.std.proofs.lemmas.List.Elements.{All-head, All-tail}
 use Rattle.std.proofs.lemmas.Map.Steps.{length-le_from_distinct_below}
 use Rattle.server_core.specs.Numbers.{Numbers, with_mark}
-use Rattle.server_core.specs.Core.{Core, allowed, first_free, in_order, is_worker, may_place, picked, round, behind, step}
+use Rattle.server_core.specs.Core.{Core, first_free, in_order, is_worker, picked, round, behind, step}
 use Rattle.server_core.specs.declared.event.Event.{Event}
 use Rattle.server_core.specs.declared.event.Event.TheVariants.{RingFull, Notice, Sent}
 use Rattle.server_core.proofs.Picks.{finds, in_round}
 use Rattle.server_core.proofs.Orders.{or_true, true_or, and_left, and_right, not_true, distinct-push, flipped}
 use Rattle.server_acceptor.specs.Logging.{Logs}
-use Rattle.server_acceptor.specs.Placing.{parcel_of, refusals, HasNoPlace, KeepsSent, NoneWaits, PutsAt, RefuseAll, Refuses, Sends, Stays, StillWaits, WasSent}
+use Rattle.server_acceptor.specs.Placing.{parcel_of, refusals, HasNoPlace, KeepsSent, PutsAt, Refuses, Sends, Stays, StillWaits, WasSent}
 use Rattle.server_acceptor.specs.declared.acceptor.Acceptor.{Acceptor}
 use Rattle.server_jobs.specs.declared.waiting.Waiting.{Waiting}
 use Rattle.rtrb.specs.declared.producer.Producer.{Producer}
@@ -137,9 +137,9 @@ refused_logs : {L : Type 0} (b c : Acceptor L) (w : ℕ) → Refuses b c w → f
 refused_logs b c w r first there below waits =
     let number : is_worker (step b.core (RingFull w)) w ≡ true = grind (arith, nat_tests) in
     logs_trans {b = step b.core (RingFull w)} {ys = b.events.items ++ RingFull w ∷ []}
-      (logs_one b.core (step b.core (RingFull w)) b.events.items (b.events.items ++ RingFull w ∷ []) (RingFull w) (may_offer b.core w waits below first) tt refl refl)
-      (logs_one (step b.core (RingFull w)) c.core (b.events.items ++ RingFull w ∷ []) c.events.items (Notice w) number (there, full_then b.core w) r.core
-        (r.events ∙ sym (append_assoc b.events.items (RingFull w ∷ []) (Notice w ∷ []))))
+    (logs_one b.core (step b.core (RingFull w)) b.events.items (b.events.items ++ RingFull w ∷ []) (RingFull w) (may_offer b.core w waits below first) tt refl refl)
+    (logs_one (step b.core (RingFull w)) c.core (b.events.items ++ RingFull w ∷ []) c.events.items (Notice w) number (there, full_then b.core w) r.core
+    (r.events ∙ sym (append_assoc b.events.items (RingFull w ∷ []) (Notice w ∷ []))))
 
 pub tried_more : {L : Type 0} (a b c : Acceptor L) (passed then : Numbers) (w : ℕ) → Tried a b passed → picked b.core passed ≡ Some w → w < length b.core.out → is_some b.core.waiting ≡ true
     → Refuses b c w → then ≡ with_mark passed w true → Tried a c then
@@ -156,13 +156,13 @@ tried_more a b c passed then w t e below waits r is =
           ∙ ap (λ es. a.events.items ++ es) (sym (refusals_push t.full w));
       once = distinct-push t.full w (sym (t.passes w) ∙ p.unpassed) t.once;
       no_place = λ v i.
-        elim (in_order t.full v) as (λ b. in_order t.full v ≡ b → HasNoPlace c.parcels.items v) [
-          | true ↦ λ there. r.others v (t.no_place v there)
-          | false ↦ λ out.
-              let here : ((w == v) || false) ≡ true = or_true (in_order t.full v) ((w == v) || false) (sym (list_any-append (λ x. x == v) t.full (w ∷ [])) ∙ i) out in
-              let same : w ≡ v = grind (arith, nat_tests) in
-              subst (λ u. HasNoPlace c.parcels.items u) same r.no_place
-        ] refl;
+          elim (in_order t.full v) as (λ b. in_order t.full v ≡ b → HasNoPlace c.parcels.items v) [
+            | true ↦ λ there. r.others v (t.no_place v there)
+            | false ↦ λ out.
+                let here : ((w == v) || false) ≡ true = or_true (in_order t.full v) ((w == v) || false) (sym (list_any-append (λ x. x == v) t.full (w ∷ [])) ∙ i) out in
+                let same : w ≡ v = grind (arith, nat_tests) in
+                subst (λ u. HasNoPlace c.parcels.items u) same r.no_place
+          ] refl;
       passes = λ v. passes v ∙ or_push (nat_eq v w) (w == v) (set.contains passed v) (in_order t.full v) (nat_eq_equiv.symm v w) (t.passes v) ∙ sym (list_any-append (λ x. x == v) t.full (w ∷ []));
       stays = stays_trans t.stays r.stays;
       waiting = r.waiting ∙ t.waiting;
@@ -176,8 +176,15 @@ tried_more a b c passed then w t e below waits r is =
           (round b.core.order b.core.next) (round c.core.order c.core.next) w t.last e frees passes
           (ap₂ round order next ∙ turned b.core.order b.core.next w t.in_turn p.in_turn);
       in_turn = λ v. omega (arith, ap (times v) order, t.in_turn v);
-      room = omega (arith, fewer, times_some w b.core.order p.in_turn, ap (untried (λ v. set.contains then v)) order, ap (λ (es : List Event). length es) r.events,
-          length-append b.events.items (RingFull w ∷ Notice w ∷ []), t.room);
+      room = omega (
+        arith,
+        fewer,
+        times_some w b.core.order p.in_turn,
+        ap (untried (λ v. set.contains then v)) order,
+        ap (λ (es : List Event). length es) r.events,
+        length-append b.events.items (RingFull w ∷ Notice w ∷ []),
+        t.room,
+      );
     }
 
 pub fewer_left : {L : Type 0} (a b c : Acceptor L) (passed then : Numbers) (w : ℕ) → Tried a b passed → picked b.core passed ≡ Some w → Refuses b c w → then ≡ with_mark passed w true

@@ -1,5 +1,5 @@
 -- The parts of a turn, put together.
-use Rattle.std.proofs.Common.{◌≡◌, ◌^◌, ◌<◌, ◌≤◌, ◌⊎◌, ◌++◌, ◌∷◌, [], ℕ, ◌+◌, ◌*◌, Bool, true, false, cond, List, length, map, All, Any, Contains, Option, Some, None, IfSome, refl, sym, ◌∙◌, ap, ap₂, arith, subst, inl, inr}
+use Rattle.std.proofs.Common.{◌≡◌, ◌<◌, ◌≤◌, ◌⊎◌, ◌++◌, [], ℕ, ◌+◌, ◌*◌, Bool, true, false, List, length, map, All, Any, Contains, Option, Some, None, IfSome, refl, sym, ◌∙◌, ap, ap₂, arith, subst, inl, inr}
 use Rattle.std.specs.List.{list_all}
 use Rattle.std.proofs.lemmas.Bool.Decides.{nat_tests}
 use Rattle.std.specs.FinSet as set
@@ -41,8 +41,16 @@ pub record SameBut {L : Type 0} (a b : Acceptor L) : Type 0 where
 
 pub same_back : {L : Type 0} (a b : Acceptor L) → SameBut a b → SameBut b a
 same_back a b s = record {
-  core = sym s.core; parcels = sym s.parcels; notes = sym s.notes; ready = sym s.ready; waiting = sym s.waiting; serial = sym s.serial; places = sym s.places; failed = sym s.failed;
-  retry_limit = sym s.retry_limit; lacks_room = sym s.lacks_room;
+  core = sym s.core;
+  parcels = sym s.parcels;
+  notes = sym s.notes;
+  ready = sym s.ready;
+  waiting = sym s.waiting;
+  serial = sym s.serial;
+  places = sym s.places;
+  failed = sym s.failed;
+  retry_limit = sym s.retry_limit;
+  lacks_room = sym s.lacks_room;
 }
 
 module _ {Li L : Type 0} (given : Li → ℕ) (left : Li → Option (List L)) (identity : L → Identity) (first now : List Li) where
@@ -127,28 +135,28 @@ module _ {Li L D : Type 0} (given : Li → ℕ) (left : Li → Option (List L)) 
   turn_does a began made next same none kept events p =
       let all : events_of next ≡ p.more = events ∙ p.appended ∙ ap (λ es. es ++ p.more) none in
       subst (λ es. Does given left identity ended faults taken count served l m a next x y es) (sym all)
-        (does_began given left identity ended faults taken count served l m x y p.more began a next same
-          (does_came given left identity ended faults taken count served l m x y p.more began made next kept p.does))
+      (does_began given left identity ended faults taken count served l m x y p.more began a next same
+      (does_came given left identity ended faults taken count served l m x y p.more began made next kept p.does))
 
   pub turn_does_stops : (a next last : Acceptor L) → StopsOnly next last → Proceeds given left identity ended faults taken count served m m next last y y
       → Does given left identity ended faults taken count served l m a next x y (events_of next) → Does given left identity ended faults taken count served l m a last x y (events_of last)
   turn_does_stops a next last only q p =
       let none : events_of next ++ q.more ≡ events_of last = sym q.appended in
       subst (λ es. Does given left identity ended faults taken count served l m a last x y es) none
-        (does_trans given left identity ended faults taken count served l m m a next last x y y (events_of next) q.more p q.does)
+      (does_trans given left identity ended faults taken count served l m m a next last x y y (events_of next) q.more p q.does)
 
 -- why a turn goes on
 short_or_not : {L : Type 0} (a : Acceptor L) → IsShort a ⊎ (IsShort a → ⊥)
 short_or_not a = elim (nat_lt (8 * workers_of a + 600) (length (events_of a) + (2 * workers_of a + 4))) as (λ b. nat_lt (8 * workers_of a + 600) (length (events_of a) + (2 * workers_of a + 4)) ≡ b → IsShort a ⊎ (IsShort a → ⊥)) [
-    | true ↦ λ t. inl (grind (arith, nat_tests))
-    | false ↦ λ f. inr (λ short. absurd (grind (arith, nat_tests)))
-  ] refl
+  | true ↦ λ t. inl (grind (arith, nat_tests))
+  | false ↦ λ f. inr (λ short. absurd (grind (arith, nat_tests)))
+] refl
 
 told_by : {L : Type 0} (a : Acceptor L) → (IsShort a → ⊥) → HasTaken a → (w : ℕ) → HasTold a w
 told_by a long taken w = elim (taken w) [
-    | inl told ↦ told
-    | inr short ↦ absurd (long short)
-  ]
+  | inl told ↦ told
+  | inr short ↦ absurd (long short)
+]
 
 module _ {Li L : Type 0} (given waits skips : Li → ℕ) (l m : List Li) (a : Acceptor L) (now : ℕ) where
   abbrev pub StopsWait : Type 0
@@ -168,27 +176,27 @@ module _ {Li L : Type 0} (given waits skips : Li → ℕ) (l m : List Li) (a : A
 
   halted_goes_on : (IsShort a → ⊥) → HasHalted a → StopsWait → AcceptGoesOn given waits skips l m a now
   halted_goes_on long halted stops = elim halted.cause [
-      | inl short ↦ absurd (long short)
-      | inr (inl waits) ↦ record {
-          notes = told_by a long halted.told;
-          placing = λ _. waits.1;
-          asked = λ none. absurd (none_waits none waits.0);
-          stops = stops;
-        }
-      | inr (inr lacks) ↦ record {
-          notes = told_by a long halted.told;
-          placing = λ some. absurd (none_waits lacks.0 some);
-          asked = λ _ _ has. absurd (let e : false ≡ true = sym has ∙ lacks.1 in cc);
-          stops = stops;
-        }
-    ]
+    | inl short ↦ absurd (long short)
+    | inr (inl waits) ↦ record {
+      notes = told_by a long halted.told;
+      placing = λ _. waits.1;
+      asked = λ none. absurd (none_waits none waits.0);
+      stops = stops;
+    }
+    | inr (inr lacks) ↦ record {
+      notes = told_by a long halted.told;
+      placing = λ some. absurd (none_waits lacks.0 some);
+      asked = λ _ _ has. absurd (let e : false ≡ true = sym has ∙ lacks.1 in cc);
+      stops = stops;
+    }
+  ]
 
   pub turn_goes_on : (s : Step) → (s ≡ On → ⊥) → (s ≡ Settled → MayAsk a × (all_ready a ≡ true → lacks_room_of a ≡ false → (t : ℕ) → t < listeners_of a → IsAskedOut given waits skips l m a now t))
       → (s ≡ Halted → HasHalted a) → ((w : ℕ) → s ≡ WorkerEnded w → ⊥) → StopsWait → IsShort a ⊎ AcceptGoesOn given waits skips l m a now
   turn_goes_on s on settled halted ended stops = elim (short_or_not a) [
-      | inl short ↦ inl short
-      | inr long ↦ inr (by_step s refl long)
-    ]
+    | inl short ↦ inl short
+    | inr long ↦ inr (by_step s refl long)
+  ]
     where
       by_step : (r : Step) → s ≡ r → (IsShort a → ⊥) → AcceptGoesOn given waits skips l m a now
       by_step On is long = absurd (on is)
@@ -239,9 +247,9 @@ module _ {Li L : Type 0} (given waits skips : Li → ℕ) where
   in_turn_same ls ms a a2 c c2 now now2 time first failed core failed_c p = subst (λ n. AsksInTurn given waits skips ls ms a2 c2 n) (sym time) (record {
     order = λ t u below under before. elim (p.order t u (subst (λ k. t < length k.ended) core below) (subst (λ k. u < length k.ended) core under)
         (subst (λ f. turn_of f (listeners_of c) t < turn_of f (listeners_of c) u) first (subst (λ k. turn_of (first_of a2) (length k.ended) t < turn_of (first_of a2) (length k.ended) u) core before))) [
-      | inl same ↦ inl same
-      | inr out ↦ inr (asked_out_same ls ms c c2 now t core failed_c out)
-    ];
+          | inl same ↦ inl same
+          | inr out ↦ inr (asked_out_same ls ms c c2 now t core failed_c out)
+        ];
     rests = λ t off. p.rests t (subst (λ xs. IsSomeAnd (slice_index_or xs t None) (λ failed. now < failed + 500)) failed off);
   })
 
@@ -273,9 +281,9 @@ module _ {L : Type 0} (a b : Acceptor L) (s : SeenSame a b) where
 
   taken_same : HasTaken a → HasTaken b
   taken_same taken w = elim (taken w) [
-      | inl told ↦ inl (told_same w told)
-      | inr short ↦ inr (short_same short)
-    ]
+    | inl told ↦ inl (told_same w told)
+    | inr short ↦ inr (short_same short)
+  ]
 
   pub may_same : MayAsk a → MayAsk b
   may_same may = record {
@@ -288,8 +296,10 @@ module _ {L : Type 0} (a b : Acceptor L) (s : SeenSame a b) where
   halted_same halted = record {
     cause = elim halted.cause [
       | inl short ↦ inl (short_same short)
-      | inr (inl waits) ↦ inr (inl (ap (λ o. is_some o) s.waiting ∙ waits.0,
-          λ w free. subst (λ v. Contains v.items (RingFull w)) (sym s.events) (waits.1 w (ap (λ k. set.contains k.free w) (sym s.core) ∙ free))))
+      | inr (inl waits) ↦ inr (inl (
+        ap (λ o. is_some o) s.waiting ∙ waits.0,
+        λ w free. subst (λ v. Contains v.items (RingFull w)) (sym s.events) (waits.1 w (ap (λ k. set.contains k.free w) (sym s.core) ∙ free)),
+      ))
       | inr (inr lacks) ↦ inr (inr (s.waiting ∙ lacks.0, s.lacks_room ∙ lacks.1))
     ];
     told = taken_same halted.told;

@@ -1,13 +1,13 @@
 -- What a turn of the acceptor does to the listeners, the rings and the holder of what is done.
-use Rattle.std.specs.Prelude.{◌≡◌, ◌≢◌, ◌⊎◌, ◌≤◌, ◌<◌, ⊤, ℕ, ◌+◌, ◌-◌, ◌*◌, ◌^◌, ◌++◌, ◌∷◌, [], min, cond, nat_lt, Bool, true, false, List, length, sum, All, Contains, count_by, nat_eq, Option, Some, None, IfSome, IsSomeAnd, slice_get, slice_index, slice_index_or, is_some}
+use Rattle.std.specs.Prelude.{◌≡◌, ◌≢◌, ◌⊎◌, ◌≤◌, ◌<◌, ℕ, ◌+◌, ◌-◌, ◌*◌, ◌^◌, ◌++◌, ◌∷◌, [], min, cond, nat_lt, Bool, true, false, List, length, sum, All, Contains, count_by, nat_eq, Option, Some, None, IfSome, IsSomeAnd, slice_get, slice_index, slice_index_or, is_some}
 use Rattle.std.specs.FinSet as set
 use Rattle.std.specs.Option.{option_map_or}
-use Rattle.rtrb.specs.Ring.{known_free, known_items, received}
+use Rattle.rtrb.specs.Ring.{known_items, received}
 use Rattle.rtrb.specs.declared.consumer.Consumer.{Consumer}
 use Rattle.server_core.specs.Core.{Core, in_order}
 use Rattle.server_core.specs.Runs.{AllAllowed, after_all}
 use Rattle.server_core.specs.declared.event.Event.{Event}
-use Rattle.server_core.specs.declared.event.Event.TheVariants.{Command, Notice, Back, Got, Sent, RingFull, Faulted, Replaced, Retired, ListenerFailed, ListenerEnded}
+use Rattle.server_core.specs.declared.event.Event.TheVariants.{Back, Got, Sent, RingFull, ListenerFailed}
 use Rattle.service_core.specs.Counts.{Rose}
 use Rattle.service_core.specs.Link.{Identity}
 use Rattle.server_run.specs.Delivery.{HasEnded, given_at, left_at, rise}

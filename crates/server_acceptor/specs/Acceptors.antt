@@ -1,7 +1,6 @@
 -- Words on an acceptor.
 use Rattle.std.specs.Prelude.{ℕ, Bool, List, length, Option, sum, ◌+◌}
 use Rattle.std.specs.List.{list_all}
-use Rattle.std.specs.Vec.{vec_len}
 use Rattle.std.specs.declared.alloc.Global.{Global}
 use Rattle.rtrb.specs.declared.AnyItems.{AnyItems}
 use Rattle.rtrb.specs.declared.consumer.Consumer.{Consumer}

@@ -1,5 +1,5 @@
 -- That a connection goes from where it waits to the ring of a worker.
-use Rattle.std.specs.Prelude.{◌+◌, ◌≢◌, is_some, slice_index, ◌≡◌, ⊤, ◌<◌, ℕ, ◌++◌, ◌∷◌, [], Bool, List, length, map, nat_eq, Option, Some, None, IfSome, slice_get, slice_set, slice_index_or, true, false}
+use Rattle.std.specs.Prelude.{◌+◌, ◌≢◌, is_some, slice_index, ◌≡◌, ◌<◌, ℕ, ◌++◌, ◌∷◌, [], Bool, List, length, map, nat_eq, Option, Some, None, IfSome, slice_get, slice_set, slice_index_or, true, false}
 use Rattle.std.specs.List.{IsDistinct}
 use Rattle.std.specs.FinSet as set
 use Rattle.rtrb.specs.Ring.{known_free, sent}

@@ -4,9 +4,9 @@ ghost use Rattle.server_acceptor.specs.Beginning.{IsNew};
 
 use crate::acceptor::Acceptor;
 use crate::board::Board;
-use server_jobs::{Note, Parcel};
 use rtrb::{Consumer, Producer};
 use server_core::AcceptCore;
+use server_jobs::{Note, Parcel};
 use std::alloc::{AllocError, Global};
 
 impl<L: Drop> Acceptor<L> {

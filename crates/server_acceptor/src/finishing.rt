@@ -23,7 +23,10 @@ impl<L: Link> Acceptor<L> {
         ensures others { (v : ℕ) → slice_index_or (stopped_of self.old) v false ≡ true → slice_index_or (stopped_of self.new) v false ≡ true }
     {
         if !self.stopped[w] {
-            if self.parcels[w].push(Parcel::Stop { graceful: true }).is_err() {
+            if self.parcels[w]
+                .push(Parcel::Stop { graceful: true })
+                .is_err()
+            {
                 return false;
             }
             self.stopped[w] = true;

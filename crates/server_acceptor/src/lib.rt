@@ -7,7 +7,6 @@ mod acceptor_new;
 mod asked;
 mod asking;
 mod board;
-mod carrying;
 mod delivering;
 mod finishing;
 mod handing;
@@ -21,5 +20,4 @@ mod turning;
 
 pub use accept_turn::AcceptTurn;
 pub use acceptor::Acceptor;
-pub use carrying::steps_carry;
 pub use placed::Placed;

@@ -1,19 +1,19 @@
 //! How the acceptor gives the connection that waits to a worker.
-ghost use Rattle.std.specs.Prelude.{◌≡◌, ◌↔◌, ◌+◌, ◌*◌, ◌≤◌, ◌<◌, ℕ, length, vec_len, IsTrue, IsFalse, Some, is_some, true, false, nat_eq};
+ghost use Rattle.std.specs.Prelude.{◌≡◌, ◌↔◌, ◌+◌, ◌*◌, ◌≤◌, ◌<◌, ℕ, length, vec_len, IsTrue, IsFalse, None, Some, is_some, true, false, nat_eq};
 ghost use Rattle.std.specs.List.{IsDistinct};
 ghost use Rattle.std.specs.FinSet as set;
 ghost use Rattle.server_core.specs.Core.{first_free, in_order};
+ghost use Rattle.server_acceptor.specs.Acceptors.{core_of, events_of, waiting_of, workers_of};
 ghost use Rattle.server_acceptor.specs.Logging.{Logs};
 ghost use Rattle.server_acceptor.specs.Placing.{waits_of, IsPlaced, Refuses, Sends, Stays};
 ghost use Rattle.server_acceptor.specs.declared.placed.Placed.TheVariants.{Nothing};
 
-use crate::placed::Placed;
 use crate::acceptor::Acceptor;
 use crate::logging::log;
-use server_jobs::Parcel;
-use server_jobs::Waiting;
+use crate::placed::Placed;
 use rtrb::PushError;
 use server_core::{AcceptCore, Availability, Event};
+use server_jobs::{Parcel, Waiting};
 use service_core::Link;
 
 // How many workers get connections in turn.
@@ -28,14 +28,14 @@ fn turns(core: &AcceptCore) -> usize
 impl<L: Link> Acceptor<L> {
     /// The events of the last turn, and of the calls of `place` since.
     pub fn events(&self) -> &[Event]
-        ensures { result.now ≡ self.now.events.items }
+        ensures { result.now ≡ events_of self.now }
     {
         &self.events
     }
 
     /// For how many more events there is room.
     pub fn event_room(&self) -> usize
-        ensures { result + vec_len self.now.events ≡ 8 * length self.now.core.out + 600 }
+        ensures { result + length (events_of self.now) ≡ 8 * workers_of self.now + 600 }
     {
         self.events.capacity() - self.events.len()
     }
@@ -88,11 +88,11 @@ impl<L: Link> Acceptor<L> {
 
     /// Puts the connection that waits on the ring of the first worker that is free and has a place for it.
     pub fn place(&mut self) -> Placed
-        requires room { vec_len self.old.events + (2 * length self.old.core.out + 1) ≤ 8 * length self.old.core.out + 600 }
-        ensures logs { Logs self.old.core self.new.core self.old.events.items self.new.events.items }
+        requires room { length (events_of self.old) + (2 * workers_of self.old + 1) ≤ 8 * workers_of self.old + 600 }
+        ensures logs { Logs (core_of self.old) (core_of self.new) (events_of self.old) (events_of self.new) }
         ensures stays { Stays self.old self.new }
         ensures placed { IsPlaced self.old self.new result }
-        ensures nothing { (result ≡ Nothing) ↔ (is_some self.old.core.waiting ≡ false) }
+        ensures nothing { (result ≡ Nothing) ↔ (waiting_of self.old ≡ None) }
     {
         if self.waiting.is_none() {
             return Placed::Nothing;

@@ -23,7 +23,6 @@ impl<L: Link> Acceptor<L> {
         self.ready.iter().all(|ready| *ready)
     }
 
-    #[tactic(auto, using(crate::proofs::TurnSteps::once_each))]
     // Whether all services stand, and no room for an entry was refused.
     fn may_accept(&self) -> bool
         ensures yes { result ≡ true → (all_ready self.now ≡ true) × (lacks_room_of self.now ≡ false) }
@@ -55,7 +54,7 @@ impl<L: Link> Acceptor<L> {
         ensures on { result ≡ step.On → ⊥ }
         ensures settled { result ≡ step.Settled → MayAsk self.new
             × (all_ready self.new ≡ true → lacks_room_of self.new ≡ false → (t : ℕ) → t < listeners_of self.new
-                → IsAskedOut Li.given Li.waits Li.skips listeners.old.items listeners.new.items self.new now t) }
+            → IsAskedOut Li.given Li.waits Li.skips listeners.old.items listeners.new.items self.new now t) }
         ensures halted { result ≡ step.Halted → HasHalted self.new }
         ensures ended { (w : ℕ) → result ≡ step.WorkerEnded w → (w < workers_of self.new) × EndsByFault self.old self.new w }
     {

@@ -1,4 +1,3 @@
-use Rattle.std.proofs.Common.{◌≡◌}
 use Rattle.server_acceptor.proofs.Trying.{turns_fit}
 use Rattle.server_acceptor.proofs.placing.turns.Goals as goal
 

@@ -1,4 +1,4 @@
-use Rattle.std.proofs.Common.{◌≡◌, ◌<◌, ◌+◌, ℕ, rules, length, arith, slice_index_or, true, false}
+use Rattle.std.proofs.Common.{◌≡◌, rules, slice_index_or, true, false}
 use Rattle.server_acceptor.proofs.StopSteps.{all_below, has_ended, still_open}
 use Rattle.server_acceptor.proofs.acceptor.Acceptor.all_ended.Goals as goal
 

@@ -1,4 +1,4 @@
-use Rattle.std.proofs.Common.{◌≡◌, ◌<◌, [], refl, sym, ◌∙◌, arith, length, rules}
+use Rattle.std.proofs.Common.{◌<◌, [], refl, sym, ◌∙◌, arith, length}
 use Rattle.std.proofs.lemmas.List.{append-nil}
 use Rattle.std.proofs.lemmas.List.Elements.{All-nil}
 use Rattle.rtrb.specs.Ring.{received}

@@ -1,4 +1,4 @@
-use Rattle.std.proofs.Common.{◌≡◌, ◌≤◌, ◌<◌, ◌+◌, refl, sym, ◌∙◌, ap, arith, rules, length, inl, inr, None, Some, []}
+use Rattle.std.proofs.Common.{◌∙◌, ap, arith, rules, inr, None, Some, []}
 use Rattle.std.specs.Prelude.{slice_index_or}
 use Rattle.server_acceptor.specs.Accepting.{refused}
 use Rattle.server_acceptor.proofs.DoesSteps.{faulted_after, proceeds_trans}
@@ -18,7 +18,7 @@ returns-in-Some-clause-once g c =
 pub returns-in_default-place_one-clause-proceeds : goal.returns-in_default-place_one-clause-proceeds
 returns-in_default-place_one-clause-proceeds g c =
     proceeds_trans _ _ _ _ _ _ _ _ c.args.listeners.now.items c.args.listeners.now.items c.args.listeners.now.items _ _ _ _ _ _
-      (hands_proceeds _ _ _ _ _ _ _ _ _ _ _ _ _ (g.met.Do.Done.small c.args.done.now) c.take_notes.ensures.hands) (c.place_one.ensures.proceeds c.args.listeners.now.items)
+    (hands_proceeds _ _ _ _ _ _ _ _ _ _ _ _ _ (g.met.Do.Done.small c.args.done.now) c.take_notes.ensures.hands) (c.place_one.ensures.proceeds c.args.listeners.now.items)
 
 pub returns-in_default-place_one-clause-first : goal.returns-in_default-place_one-clause-first
 returns-in_default-place_one-clause-first g c = (c.place_one.ensures.none_asked c.args.listeners.now.items).first ∙ c.take_notes.ensures.hands.first
@@ -38,7 +38,7 @@ returns-in_default-place_one-clause-ended g c w is =
 pub returns-then-not-may_accept-clause-proceeds : goal.returns-then-not-may_accept-clause-proceeds
 returns-then-not-may_accept-clause-proceeds g c =
     proceeds_trans _ _ _ _ _ _ _ _ c.args.listeners.now.items c.args.listeners.now.items c.args.listeners.now.items _ _ _ _ _ _
-      (hands_proceeds _ _ _ _ _ _ _ _ _ _ _ _ _ (g.met.Do.Done.small c.args.done.now) c.take_notes.ensures.hands) (c.place_one.ensures.proceeds c.args.listeners.now.items)
+    (hands_proceeds _ _ _ _ _ _ _ _ _ _ _ _ _ (g.met.Do.Done.small c.args.done.now) c.take_notes.ensures.hands) (c.place_one.ensures.proceeds c.args.listeners.now.items)
 
 pub returns-then-not-may_accept-clause-first : goal.returns-then-not-may_accept-clause-first
 returns-then-not-may_accept-clause-first g c = (c.place_one.ensures.none_asked c.args.listeners.now.items).first ∙ c.take_notes.ensures.hands.first
@@ -50,9 +50,9 @@ returns-then-not-may_accept-clause-once g c =
 pub returns-clause-proceeds : goal.returns-clause-proceeds
 returns-clause-proceeds g c =
     proceeds_trans _ _ _ _ _ _ _ _ c.args.listeners.now.items c.args.listeners.now.items c.ask_all.new.listeners.items _ _ _ _ _ _
-      (proceeds_trans _ _ _ _ _ _ _ _ c.args.listeners.now.items c.args.listeners.now.items c.args.listeners.now.items _ _ _ _ _ _
-        (hands_proceeds _ _ _ _ _ _ _ _ _ _ _ _ _ (g.met.Do.Done.small c.args.done.now) c.take_notes.ensures.hands) (c.place_one.ensures.proceeds c.args.listeners.now.items))
-      c.ask_all.ensures.proceeds
+    (proceeds_trans _ _ _ _ _ _ _ _ c.args.listeners.now.items c.args.listeners.now.items c.args.listeners.now.items _ _ _ _ _ _
+    (hands_proceeds _ _ _ _ _ _ _ _ _ _ _ _ _ (g.met.Do.Done.small c.args.done.now) c.take_notes.ensures.hands) (c.place_one.ensures.proceeds c.args.listeners.now.items))
+    c.ask_all.ensures.proceeds
 
 pub returns-clause-first : goal.returns-clause-first
 returns-clause-first g c = c.ask_all.ensures.first ∙ (c.place_one.ensures.none_asked c.args.listeners.now.items).first ∙ c.take_notes.ensures.hands.first
@@ -60,13 +60,13 @@ returns-clause-first g c = c.ask_all.ensures.first ∙ (c.place_one.ensures.none
 pub returns-clause-once : goal.returns-clause-once
 returns-clause-once g c =
     once_each c.args.self.now.events.items c.place_one.new.self.events.items c.ask_all.new.self.events.items c.requires.begins (λ t. (c.place_one.ensures.none_asked c.args.listeners.now.items).others t (inr (omega arith)) ∙ hands_failed _ _ _ _ _ _ _ _ c.take_notes.ensures.hands t)
-      c.ask_all.ensures.once c.ask_all.ensures.refusals
+    c.ask_all.ensures.once c.ask_all.ensures.refusals
 
 pub returns-clause-in_turn : goal.returns-clause-in_turn
 returns-clause-in_turn g c =
     in_turn_from _ _ _ _ _ c.args.self.now c.place_one.new.self _ _ ((c.place_one.ensures.none_asked c.args.listeners.now.items).first ∙ c.take_notes.ensures.hands.first)
-      (λ t. (c.place_one.ensures.none_asked c.args.listeners.now.items).failed t (inr (omega arith)) ∙ ap (λ v. slice_index_or v.items t None) c.take_notes.ensures.hands.failed)
-      c.ask_all.ensures.in_turn
+    (λ t. (c.place_one.ensures.none_asked c.args.listeners.now.items).failed t (inr (omega arith)) ∙ ap (λ v. slice_index_or v.items t None) c.take_notes.ensures.hands.failed)
+    c.ask_all.ensures.in_turn
 
 pub returns-clause-settled : goal.returns-clause-settled
 returns-clause-settled g c is = let s = c.ask_all.ensures.settled is in (s.0, λ ready room. s.1)

@@ -1,9 +1,8 @@
-use Rattle.std.proofs.Common.{◌≡◌, ◌+◌, ◌<◌, ◌++◌, ◌∷◌, [], refl, sym, ◌∙◌, ap, append_assoc, arith, rules, vec_len, length}
+use Rattle.std.proofs.Common.{◌<◌, ◌++◌, ◌∷◌, [], sym, ◌∙◌, ap, append_assoc, arith, rules}
 use Rattle.std.specs.Prelude.{slice_index, sum}
 use Rattle.std.proofs.Math.ListN.{length-set}
 use Rattle.server_core.specs.Core.{Core, step}
 use Rattle.server_core.specs.declared.event.Event.TheVariants.{Notice, RingFull}
-use Rattle.server_acceptor.specs.Placing.{parcel_of, PutsAt, Refuses, Sends, Stays}
 use Rattle.server_acceptor.proofs.HandSteps.{in_turn_kept}
 use Rattle.server_acceptor.proofs.PlaceSteps.{back_again, below_limit, keeps_sent, no_place_at, no_place_other, no_place_still, puts_at, out_fits, patient_kept, ruled_after_sent, ruled_full, sum_higher}
 use Rattle.server_acceptor.proofs.acceptor.Acceptor.offer.Goals as goal

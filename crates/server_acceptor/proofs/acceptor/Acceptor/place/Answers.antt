@@ -1,6 +1,4 @@
-use Rattle.std.proofs.Common.{◌≡◌, ◌+◌, ◌<◌, ◌≤◌, refl, sym, ◌∙◌, ap, arith, rules, vec_len, length, true}
-use Rattle.std.specs.Prelude.{is_some}
-use Rattle.server_core.specs.Core.{picked}
+use Rattle.std.proofs.Common.{ap, arith, rules, length}
 use Rattle.server_acceptor.proofs.Trying.{fewer_left, is_picked, room_left, sent_logs, tried_more, tried_none, was_sent}
 use Rattle.server_acceptor.proofs.acceptor.Acceptor.place.Goals as goal
 

@@ -1,4 +1,3 @@
-use Rattle.std.proofs.Common.{◌≡◌}
 use Rattle.std.specs.FinSet as set
 use Rattle.server_acceptor.proofs.Rotating.{untried}
 use Rattle.server_acceptor.proofs.Trying.{Tried}

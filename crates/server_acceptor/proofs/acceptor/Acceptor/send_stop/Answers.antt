@@ -1,4 +1,4 @@
-use Rattle.std.proofs.Common.{◌≡◌, refl, rules, inl, inr, length, sym, ◌∙◌, true}
+use Rattle.std.proofs.Common.{refl, rules, inl, inr, sym, ◌∙◌, true}
 use Rattle.server_jobs.specs.declared.parcel.Parcel.TheVariants.{Stop}
 use Rattle.std.proofs.lemmas.List.{get_or_default}
 use Rattle.server_acceptor.proofs.PlaceSteps.{keeps_sent, no_place_at, puts_at}

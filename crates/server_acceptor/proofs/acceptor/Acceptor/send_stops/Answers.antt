@@ -1,5 +1,4 @@
-use Rattle.std.proofs.Common.{◌≡◌, ◌<◌, ◌+◌, ℕ, rules, length, inl, inr, arith}
-use Rattle.std.proofs.lemmas.List.{get_or_default}
+use Rattle.std.proofs.Common.{rules, arith}
 use Rattle.server_acceptor.proofs.DoesSteps.{proceeds_none, proceeds_trans}
 use Rattle.server_acceptor.proofs.StopSteps.{all_got, got_more, stops_none, stops_trans}
 use Rattle.server_acceptor.proofs.acceptor.Acceptor.send_stops.Goals as goal

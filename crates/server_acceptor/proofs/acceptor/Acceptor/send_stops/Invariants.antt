@@ -1,4 +1,4 @@
-use Rattle.std.proofs.Common.{◌≡◌, ◌<◌, ℕ, List, true, false, length}
+use Rattle.std.proofs.Common.{◌≡◌, ◌<◌, ℕ, List, true, false}
 use Rattle.std.specs.Prelude.{slice_index_or}
 use Rattle.server_acceptor.specs.Accepting.{Proceeds}
 use Rattle.server_acceptor.specs.Acceptors.{stopped_of}

@@ -1,5 +1,5 @@
-use Rattle.std.proofs.Common.{◌≡◌, ◌+◌, ◌<◌, ◌≤◌, refl, sym, ◌∙◌, ap, arith, rules, length, inl, inr}
-use Rattle.server_acceptor.proofs.NoteSteps.{ends_later, hands_none, hands_trans, refused_again, same_workers, spare_same, told_all, told_or_short, told_up_to}
+use Rattle.std.proofs.Common.{◌∙◌, arith, rules}
+use Rattle.server_acceptor.proofs.NoteSteps.{ends_later, hands_none, hands_trans, refused_again, same_workers, told_all, told_up_to}
 use Rattle.server_acceptor.proofs.acceptor.Acceptor.take_notes.Goals as goal
 
 pub loop-w-init : goal.loop-w-init

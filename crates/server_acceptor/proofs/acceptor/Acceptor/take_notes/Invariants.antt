@@ -1,4 +1,4 @@
-use Rattle.std.proofs.Common.{◌≡◌, ◌⊎◌, ◌≤◌, ◌<◌, ℕ}
+use Rattle.std.proofs.Common.{◌⊎◌, ◌≤◌, ◌<◌, ℕ}
 use Rattle.server_acceptor.specs.Accepting.{HasTold, IsShort}
 use Rattle.server_acceptor.specs.Acceptors.{out_of}
 use Rattle.server_acceptor.specs.Handing.{Hands}

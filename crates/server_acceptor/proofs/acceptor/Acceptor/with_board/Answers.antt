@@ -1,6 +1,6 @@
-use Rattle.std.proofs.Common.{◌≡◌, ◌^◌, ◌<◌, ℕ, refl, rules, length, sym, ◌∙◌, ap, subst}
+use Rattle.std.proofs.Common.{◌^◌, ◌<◌, ℕ, sym, ◌∙◌, ap, subst}
 use Rattle.std.specs.Prelude.{slice_index_or, sum}
-use Rattle.server_core.specs.Core.{Core, fresh}
+use Rattle.server_core.specs.Core.{Core}
 use Rattle.server_acceptor.proofs.HandSteps.{AreInTurn}
 use Rattle.server_acceptor.proofs.NewSteps.{new_in_turn, new_patient, new_ruled, new_small, new_sum}
 use Rattle.server_acceptor.proofs.PlaceSteps.{IsPatient, IsRuled}
