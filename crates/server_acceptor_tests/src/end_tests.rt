@@ -1,12 +1,9 @@
 //! How listeners, workers and the acceptor come to an end.
 use crate::act::Act::{Entries, Once, Rounds, Turn, Worker};
 use crate::answer::Answer::{Fail as Fails, Give};
-use crate::book::Book;
 use crate::deed::Deed::{Back, Fault, Ready, Stray, Take};
 use crate::plan::{PLAIN, Plan};
 use crate::telling::{holds, tells};
-use server_acceptor::steps_carry;
-use server_run::MemoryListener;
 use std::test::Fail;
 
 #[test]
@@ -164,9 +161,4 @@ fn each_connection_of_sixty_four_listeners_comes_back_once(rt: HostRuntime) -> R
         &rt,
         tells(&rt, plan, &[Give(30)], &acts, b", drained, each once"),
     )
-}
-
-#[test]
-fn the_law_of_steps_can_be_called() {
-    steps_carry::<MemoryListener, Book>();
 }
