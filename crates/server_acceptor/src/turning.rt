@@ -23,7 +23,6 @@ impl<L: Link> Acceptor<L> {
         self.ready.iter().all(|ready| *ready)
     }
 
-    #[tactic(auto, using(crate::proofs::TurnSteps::once_each))]
     // Whether all services stand, and no room for an entry was refused.
     fn may_accept(&self) -> bool
         ensures yes { result ≡ true → (all_ready self.now ≡ true) × (lacks_room_of self.now ≡ false) }

@@ -1,0 +1,38 @@
+ghost use Rattle.std.specs.Prelude.{◌≡◌, Ok, IsOk, IsSome};
+ghost use Rattle.futures.specs.declared.task.Poll.TheVariants.{Ready as PollReady};
+
+use crate::closing::Closing;
+use crate::tag::Tag;
+use futures::task::{Context, Poll};
+use service_core::{Ended, Service};
+
+/// Ends each connection, and neither reads nor writes.
+#[derive(Clone, Copy)]
+pub(crate) struct Closer;
+
+impl Service<Tag> for Closer {
+    type Response = Ended<Tag>;
+
+    type Error = ();
+
+    type Future = Closing;
+
+    ghost may = { λ _ _ r. IsOk r };
+
+    ghost may_ready = { λ _ answer. answer ≡ PollReady (Ok tt) };
+
+    ghost may_begin = { λ _ _ f. IsSome f.link };
+
+    ghost begun_gives = { λ _ _ _ begun. (begun, λ _ given. given) };
+
+    fn poll_ready(&self, _cx: &mut Context<'_>) -> Poll<Result<(), ()>> {
+        Poll::Ready(Ok(()))
+    }
+
+    fn call(&self, req: Tag) -> Closing {
+        Closing {
+            link: Some(req),
+            waited: false,
+        }
+    }
+}
