@@ -62,6 +62,10 @@ module _ {L : Type 0} where
   abbrev pub retry_limit_of : Acceptor L → ℕ
   retry_limit_of a = a.retry_limit
 
+  -- how many seconds a worker has after a stop
+  abbrev pub shutdown_timeout_of : Acceptor L → ℕ
+  shutdown_timeout_of a = a.shutdown_timeout
+
   -- room for an entry was refused
   abbrev pub lacks_room_of : Acceptor L → Bool
   lacks_room_of a = a.lacks_room

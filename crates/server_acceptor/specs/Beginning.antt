@@ -7,11 +7,11 @@ use Rattle.rtrb.specs.declared.producer.Producer.{Producer}
 use Rattle.server_core.specs.Core.{fresh}
 use Rattle.server_jobs.specs.declared.note.Note.{Note}
 use Rattle.server_jobs.specs.declared.parcel.Parcel.{Parcel}
-use Rattle.server_acceptor.specs.Acceptors.{core_of, events_of, failed_of, first_of, lacks_room_of, limit_of, notes_of, parcels_of, places_of, ready_of, retry_limit_of, serial_of, stopped_of, waiting_of}
+use Rattle.server_acceptor.specs.Acceptors.{core_of, events_of, failed_of, first_of, lacks_room_of, limit_of, notes_of, parcels_of, places_of, ready_of, retry_limit_of, serial_of, shutdown_timeout_of, stopped_of, waiting_of}
 use Rattle.server_acceptor.specs.declared.acceptor.Acceptor.{Acceptor}
 
 -- It has these ends of the rings. Nothing has come, no worker told anything, and none got a stop.
-pub record IsNew {L : Type 0} (a : Acceptor L) (parcels : List (Producer (Parcel L) Global AnyItems)) (notes : List (Consumer (Note L) Global AnyItems)) (listeners limit retry_limit : ℕ) : Type 0 where
+pub record IsNew {L : Type 0} (a : Acceptor L) (parcels : List (Producer (Parcel L) Global AnyItems)) (notes : List (Consumer (Note L) Global AnyItems)) (listeners limit retry_limit shutdown_timeout : ℕ) : Type 0 where
   pub core : core_of a ≡ fresh (length parcels) listeners
   pub events : events_of a ≡ []
   pub producers : parcels_of a ≡ parcels
@@ -26,3 +26,4 @@ pub record IsNew {L : Type 0} (a : Acceptor L) (parcels : List (Producer (Parcel
   pub room : lacks_room_of a ≡ false
   pub same_limit : limit_of a ≡ limit
   pub same_retry_limit : retry_limit_of a ≡ retry_limit
+  pub same_timeout : shutdown_timeout_of a ≡ shutdown_timeout

@@ -30,7 +30,7 @@ impl<L: Drop> Acceptor<L> {
         requires events { (board.events.items ≡ []) × (vec_capacity board.events ≡ 8 * length parcels.items + 600) }
         requires ready { (board.ready.items ≡ replicate (length parcels.items) false) × (board.stopped.items ≡ replicate (length parcels.items) false) }
         requires places { (board.places.items ≡ replicate listeners 0) × (board.failed.items ≡ replicate listeners None) }
-        ensures { IsNew result parcels.items notes.items listeners limit retry_limit }
+        ensures { IsNew result parcels.items notes.items listeners limit retry_limit shutdown_timeout }
     {
         let Board {
             events,
@@ -79,7 +79,7 @@ impl<L: Drop> Acceptor<L> {
         requires most_listeners { listeners ≤ 64 }
         requires some_connections { 1 ≤ limit }
         requires some_failures { 1 ≤ retry_limit }
-        ensures { IfOk result (λ a. IsNew a parcels.items notes.items listeners limit retry_limit) }
+        ensures { IfOk result (λ a. IsNew a parcels.items notes.items listeners limit retry_limit shutdown_timeout) }
     {
         let board = Board::new(alloc, parcels.len(), listeners)?;
         Ok(Acceptor::with_board(
