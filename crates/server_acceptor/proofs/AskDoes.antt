@@ -20,7 +20,7 @@ use Rattle.server_run.specs.declared.entry.Entry.{Entry}
 use Rattle.server_run.proofs.Progress.{adds_none}
 use Rattle.server_jobs.specs.declared.waiting.Waiting.{Waiting}
 use Rattle.server_jobs.specs.declared.note.Note.TheVariants.{Ready as ReadyNote}
-use Rattle.server_acceptor.specs.Accepting.{HasTaken, HasTold, IsOutside, IsShort, MayAsk, is_back, is_failed, is_got, is_sent, received_at, refused, refused_by}
+use Rattle.server_acceptor.specs.Accepting.{HasTaken, HasTold, IsOutside, IsShort, MayAsk, is_back, is_failed, is_got, is_sent, received_at, refused}
 use Rattle.server_acceptor.specs.Acceptors.{all_ready, core_of, events_of, notes_of, out_of, ready_of}
 use Rattle.server_acceptor.specs.Asking.{AskDoes, ComesTo}
 use Rattle.server_acceptor.specs.AskingListeners.{AsksOnly, IsAsked, Leaves, TakesUp}
@@ -33,6 +33,7 @@ use Rattle.server_acceptor.specs.declared.acceptor.Acceptor.{Acceptor}
 use Rattle.server_acceptor.specs.declared.asked.Asked.{Asked}
 use Rattle.server_acceptor.specs.declared.asked.Asked.TheVariants.{Got, NotYet, Skipped, Failed, Ended}
 use Rattle.server_acceptor.proofs.AskSteps.{marked_at, opened_at, opened_below}
+use Rattle.server_acceptor.proofs.NoteSteps.{refused_append}
 
 -- ---- events of one listener alone
 abbrev AreOf : ℕ → List Event → Type 0
@@ -67,10 +68,6 @@ none_of p t g f n (RingFull w ∷ es) are = absurd are
 none_of p t g f n (Faulted w ∷ es) are = absurd are
 none_of p t g f n (Replaced w ∷ es) are = absurd are
 none_of p t g f n (Retired w ∷ es) are = absurd are
-
-pub refused_append : (full : Option (List ℕ)) (xs ys : List Event) → refused full (xs ++ ys) ≡ refused (refused full xs) ys
-refused_append full [] ys = refl
-refused_append full (x ∷ xs) ys = refused_append (refused_by full x) xs ys
 
 refused_same : (full : Option (List ℕ)) (t : ℕ) (es : List Event) → AreOf t es → refused full es ≡ full
 refused_same full t [] are = refl

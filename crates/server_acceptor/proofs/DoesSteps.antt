@@ -3,7 +3,6 @@ use Rattle.std.proofs.Common.{◌≡◌, ◌≢◌, ◌^◌, ◌≤◌, ◌<◌,
 use Rattle.std.specs.Prelude.{count_by, slice_get, slice_index, slice_index_or}
 use Rattle.std.proofs.lemmas.List.{append-nil}
 use Rattle.std.proofs.lemmas.List.Sums.{sum_by-append}
-use Rattle.std.proofs.lemmas.List.Elements.{Contains-append_right}
 use Rattle.std.specs.Option.{option_map_or}
 use Rattle.service_core.specs.Counts.{Rose}
 use Rattle.service_core.specs.Link.{Identity}
@@ -12,28 +11,13 @@ use Rattle.server_core.specs.declared.event.Event.{Event}
 use Rattle.server_run.specs.Delivery.{HasEnded, given_at}
 use Rattle.server_run.specs.declared.entry.Entry.{Entry}
 use Rattle.server_run.proofs.Progress.{adds_none}
-use Rattle.server_acceptor.specs.Accepting.{Does, EndsByFault, Logged, Proceeds, Receives, TellsEnds, Untouched, is_back, is_failed, is_got, is_sent}
+use Rattle.server_acceptor.specs.Accepting.{Does, EndsByFault, Logged, Proceeds, TellsEnds, Untouched, is_back, is_failed, is_got, is_sent}
 use Rattle.server_acceptor.specs.Acceptors.{all_ready, core_of, events_of, retry_limit_of}
 use Rattle.server_acceptor.specs.Carrying.{Carries}
 use Rattle.server_acceptor.specs.Logging.{AllOfUse}
 use Rattle.server_acceptor.proofs.LogSteps.{after_append, allowed_append, of_use_append}
-use Rattle.server_acceptor.proofs.NoteSteps.{adds_trans}
+use Rattle.server_acceptor.proofs.NoteSteps.{adds_trans, ends_later, receives_none, receives_trans}
 use Rattle.server_acceptor.specs.declared.acceptor.Acceptor.{Acceptor}
-
--- ---- notes came, and more notes
-pub receives_none : {L : Type 0} (a : Acceptor L) (w : ℕ) → Receives a a w
-receives_none a w = record { more = []; came = sym (append-nil _) }
-
-pub receives_trans : {L : Type 0} (a b c : Acceptor L) (w : ℕ) → Receives a b w → Receives b c w → Receives a c w
-receives_trans a b c w p q = record { more = p.more ++ q.more; came = q.came ∙ ap (λ ns. ns ++ q.more) p.came ∙ append_assoc _ p.more q.more }
-
--- the note of a fault came after other notes
-pub faulted_after : {L : Type 0} (a b c : Acceptor L) (w : ℕ) → Receives a b w → EndsByFault b c w → EndsByFault a c w
-faulted_after a b c w p q = record {
-  more = p.more ++ q.more;
-  came = q.came ∙ ap (λ ns. ns ++ q.more) p.came ∙ append_assoc _ p.more q.more;
-  faulted = Contains-append_right p.more q.more _ q.faulted;
-}
 
 -- a count rose in one part, and did not fall in the other
 rose_either : (n m x y z : ℕ) → 0 < n + m → (0 < n → Rose x y) → (0 < m → Rose y z) → x ≤ y → y ≤ z → Rose x z
@@ -72,7 +56,7 @@ module _ {Li L D : Type 0} (given : Li → ℕ) (left : Li → Option (List L)) 
     awaits = record { stays_ready = λ r. r; early = λ early. untouched_none ls d; noted = λ n. n };
     tells = record { ends = λ t before now. absurd (let e : false ≡ true = sym before ∙ now in cc); stays = λ t is. (refl, refl, is); rises = λ t. omega arith };
     rings = record { parcels = refl; notes = refl };
-    receives = receives_none a;
+    receives = λ w. receives_none a w;
     as_many = refl;
     workers = refl;
     listeners = refl;
@@ -166,4 +150,4 @@ module _ {Li L D : Type 0} (given : Li → ℕ) (left : Li → Option (List L)) 
 
     -- a worker that ends by a fault after that
     pub fault_after : (w : ℕ) → Proceeds given left identity ended faults taken count served l m a b x y → EndsByFault b c w → EndsByFault a c w
-    fault_after w p e = faulted_after a b c w (p.does.receives w) e
+    fault_after w p e = ends_later a b c w (p.does.receives w) e

@@ -8,6 +8,8 @@ use Rattle.service_core.specs.Link.{Identity}
 use Rattle.server_run.specs.Delivery.{given_at, left_at, once_below, rise}
 use Rattle.server_run.specs.declared.entry.Entry.{Entry}
 use Rattle.server_jobs.specs.Cards.{Card, of_entry, of_note, of_parcel, of_waiting}
+use Rattle.server_acceptor.specs.Notes.{count_back}
+use Rattle.server_acceptor.specs.Rings.{count_put}
 use Rattle.server_acceptor.specs.declared.acceptor.Acceptor.{Acceptor}
 use Rattle.server_jobs.specs.declared.note.Note.{Note}
 use Rattle.server_jobs.specs.declared.note.Note.TheVariants.{Back}
@@ -65,5 +67,4 @@ pub record Carries {Li L : Type 0} (given : Li → ℕ) (left : Li → Option (L
   pub back : (h : Card → ℕ) → came_back identity h a.notes.items ≡ sum_by (of_entry identity h) entries
   pub noted : All (λ e. Any (λ c. Contains (received c) (Back e)) a.notes.items) entries
   -- the core counts, for each worker, what is out
-  pub out : (w : ℕ) → option_map_or (λ p. sum_by (of_parcel identity (λ c. 1)) (sent p)) (slice_get a.parcels.items w) 0
-      ≡ option_map_or (λ c. sum_by (of_note identity (λ c. 1)) (received c)) (slice_get a.notes.items w) 0 + slice_index a.core.out w
+  pub out : (w : ℕ) → count_put identity a.parcels.items w ≡ count_back identity a.notes.items w + slice_index a.core.out w

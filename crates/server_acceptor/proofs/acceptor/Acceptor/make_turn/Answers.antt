@@ -1,8 +1,9 @@
 use Rattle.std.proofs.Common.{◌∙◌, ap, arith, rules, inr, None, Some, []}
 use Rattle.std.specs.Prelude.{slice_index_or}
 use Rattle.server_acceptor.specs.Accepting.{refused}
-use Rattle.server_acceptor.proofs.DoesSteps.{faulted_after, proceeds_trans}
+use Rattle.server_acceptor.proofs.DoesSteps.{proceeds_trans}
 use Rattle.server_acceptor.proofs.HandsDoes.{hands_proceeds}
+use Rattle.server_acceptor.proofs.NoteSteps.{ends_later}
 use Rattle.server_acceptor.proofs.PlacedDoes.{hands_failed}
 use Rattle.server_acceptor.proofs.TurnSteps.{in_turn_from, in_turn_none, is_some_of, once_each, unrefused_first}
 use Rattle.server_acceptor.proofs.acceptor.Acceptor.make_turn.Goals as goal
@@ -33,7 +34,7 @@ returns-in_default-place_one-clause-in_turn g c = in_turn_none _ _ _ c.args.list
 pub returns-in_default-place_one-clause-ended : goal.returns-in_default-place_one-clause-ended
 returns-in_default-place_one-clause-ended g c w is =
     let fault = c.place_one.ensures.ended w (search rules) in
-    (fault.0, faulted_after _ _ _ w (c.take_notes.ensures.hands.receives w) fault.1)
+    (fault.0, ends_later _ _ _ w (c.take_notes.ensures.hands.receives w) fault.1)
 
 pub returns-then-not-may_accept-clause-proceeds : goal.returns-then-not-may_accept-clause-proceeds
 returns-then-not-may_accept-clause-proceeds g c =
@@ -74,4 +75,4 @@ returns-clause-settled g c is = let s = c.ask_all.ensures.settled is in (s.0, λ
 pub returns-clause-ended : goal.returns-clause-ended
 returns-clause-ended g c w is =
     let fault = c.ask_all.ensures.ended w is in
-    (fault.0, faulted_after _ _ _ w (c.take_notes.ensures.hands.receives w) (faulted_after _ _ _ w ((c.place_one.ensures.proceeds c.args.listeners.now.items).does.receives w) fault.1))
+    (fault.0, ends_later _ _ _ w (c.take_notes.ensures.hands.receives w) (ends_later _ _ _ w ((c.place_one.ensures.proceeds c.args.listeners.now.items).does.receives w) fault.1))
