@@ -10,7 +10,8 @@ use connections::listener;
 use greeter::Greeter;
 use greeter_factory::GreeterFactory;
 use http1_plain::Limits;
-use server_run::{Entry, Host, KeepAll, MemoryLink, Server};
+use server_alone::Server;
+use server_run::{Entry, Host, KeepAll, MemoryLink};
 use std::alloc::{AllocError, Global};
 use std::process::ExitCode;
 

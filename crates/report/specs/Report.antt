@@ -9,7 +9,7 @@ use Rattle.server_run.specs.declared.report.Report.{Report}
 use Rattle.server_run.specs.declared.report.End.{End}
 use Rattle.server_run.specs.declared.report.End.TheVariants.{Drained, Memory as NoRoom}
 use Rattle.server_run.specs.declared.report.ListenerState.{ListenerState}
-use Rattle.server_run.specs.declared.report.ListenerState.TheVariants.{Ended, Open}
+use Rattle.server_run.specs.declared.report.ListenerState.TheVariants.{Ended, Faulted, Open}
 use Rattle.report.specs.Peers.{hex_letter}
 
 -- a byte as it stands between the quotes
@@ -35,8 +35,10 @@ line_of token place outcome written =
 abbrev pub entry_line : Entry MemoryLink → List ℕ
 entry_line entry = line_of entry.token entry.place entry.outcome entry.link.written
 
+-- what became of a listener: one that was given up is told with the number of its failures
 abbrev pub state_word : ListenerState → List ℕ
 state_word Ended = codes "ended"
+state_word (Faulted failures) = codes "faulted " ++ decimal failures
 state_word Open = codes "open"
 
 abbrev pub state_line : ℕ → ListenerState → List ℕ

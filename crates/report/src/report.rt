@@ -57,9 +57,24 @@ fn push_state(
 ) -> Result<(), AllocError>
     ensures { OnOk result (out.new ≡ out.old ++ state_line token state) }
 {
-    let word = state_word(state);
-    let line = format!(in alloc; "listener {token} {word}\n")?;
-    out.push_all(line.as_bytes())
+    let head = format!(in alloc; "listener {token} ")?;
+    out.push_all(head.as_bytes())?;
+    push_word(alloc, out, state)?;
+    out.push_all(b"\n")
+}
+
+// What became of a listener, in words.
+fn push_word(alloc: Global, out: &mut Octets, state: ListenerState) -> Result<(), AllocError>
+    ensures { OnOk result (out.new ≡ out.old ++ state_word state) }
+{
+    match state {
+        ListenerState::Ended => out.push_all(b"ended"),
+        ListenerState::Faulted { failures } => {
+            let word = format!(in alloc; "faulted {failures}")?;
+            out.push_all(word.as_bytes())
+        }
+        ListenerState::Open => out.push_all(b"open"),
+    }
 }
 
 fn outcome_word(outcome: Outcome) -> &'static str
@@ -71,15 +86,6 @@ fn outcome_word(outcome: Outcome) -> &'static str
         Outcome::WriteFault => "write-fault",
         Outcome::Upgraded => "upgraded",
         Outcome::Memory => "memory",
-    }
-}
-
-fn state_word(state: ListenerState) -> &'static str
-    ensures { result.now ≡ state_word state }
-{
-    match state {
-        ListenerState::Ended => "ended",
-        ListenerState::Open => "open",
     }
 }
 

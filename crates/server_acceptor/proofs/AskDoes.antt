@@ -1,13 +1,13 @@
 -- What asking a listener once does.
-use Rattle.std.proofs.Common.{◌≡◌, ◌≢◌, ◌^◌, ◌≤◌, ◌<◌, ◌⊎◌, ◌++◌, ◌∷◌, [], ℕ, zero, suc, ◌+◌, ◌-◌, Bool, true, false, true≢false, cond, List, map, length, Contains, Option, Some, None, IfSome, refl, sym, ◌∙◌, ap, arith, subst, inl, inr, length-append, get_or-set_other}
-use Rattle.std.specs.Prelude.{⊤, count_by, min, nat_eq, slice_get, slice_index, slice_index_or, sum, IsSomeAnd}
+use Rattle.std.proofs.Common.{◌≡◌, ◌≢◌, ◌^◌, ◌≤◌, ◌<◌, ◌⊎◌, ◌++◌, ◌∷◌, [], ℕ, zero, suc, ◌+◌, ◌-◌, Bool, true, false, true≢false, cond, List, map, length, Contains, Option, Some, None, IfSome, refl, sym, ◌∙◌, ap, ap₂, arith, subst, inl, inr, length-append, get_or-set_other}
+use Rattle.std.specs.Prelude.{⊤, count_by, min, nat_eq, slice_get, slice_index, slice_index_or, slice_set, sum, IsSomeAnd}
 use Rattle.std.specs.List.{list_all}
 use Rattle.std.proofs.Math.ListN.{length-set}
 use Rattle.std.proofs.lemmas.Bool.{cases_eq}
 use Rattle.std.proofs.lemmas.Bool.Decides.{nat_tests}
 use Rattle.std.proofs.lemmas.List.{append-nil, append_cancel_left}
 use Rattle.std.proofs.lemmas.List.Sums.{sum_by-append}
-use Rattle.std.specs.Option.{option_map, option_map_or}
+use Rattle.std.specs.Option.{option_and_then, option_map, option_map_or}
 use Rattle.rtrb.specs.Ring.{known_items, received}
 use Rattle.service_core.specs.Counts.{Rose}
 use Rattle.service_core.specs.Link.{Identity}
@@ -15,15 +15,16 @@ use Rattle.server_core.specs.Core.{Core, held, is_open, step}
 use Rattle.server_core.specs.Runs.{AllAllowed, after_all}
 use Rattle.server_core.specs.declared.event.Event.{Event}
 use Rattle.server_core.specs.declared.event.Event.TheVariants.{Command, Notice, Back, Got as GotOf, Sent, RingFull, Faulted, Replaced, Retired, ListenerFailed, ListenerEnded}
-use Rattle.server_run.specs.Delivery.{HasEnded, given_at}
+use Rattle.server_run.specs.Delivery.{HasEnded, given_at, rest_at}
+use Rattle.server_run.specs.Listener.{Mark, fails, gives, in_a_row}
 use Rattle.server_run.specs.declared.entry.Entry.{Entry}
-use Rattle.server_run.proofs.Progress.{adds_none}
+use Rattle.server_acceptor.proofs.Giving.{adds_none}
 use Rattle.server_jobs.specs.declared.waiting.Waiting.{Waiting}
 use Rattle.server_jobs.specs.declared.note.Note.TheVariants.{Ready as ReadyNote}
-use Rattle.server_acceptor.specs.Accepting.{HasTaken, HasTold, IsOutside, IsShort, MayAsk, is_back, is_failed, is_got, is_sent, received_at, refused}
+use Rattle.server_acceptor.specs.Accepting.{HasTaken, HasTold, IsOutside, IsShort, MayAsk, is_back, is_failed, is_got, is_sent, marks_of, received_at, refused}
 use Rattle.server_acceptor.specs.Acceptors.{all_ready, core_of, events_of, notes_of, out_of, ready_of}
 use Rattle.server_acceptor.specs.Asking.{AskDoes, ComesTo}
-use Rattle.server_acceptor.specs.AskingListeners.{AsksOnly, IsAsked, Leaves, TakesUp}
+use Rattle.server_acceptor.specs.AskingListeners.{AsksOnly, IsAsked, IsMarkedAs, Leaves, TakesUp}
 use Rattle.server_acceptor.specs.Carrying.{Carries}
 use Rattle.server_acceptor.specs.Notes.{IsBackFirst, count_back}
 use Rattle.server_acceptor.specs.Listening.{AsksAt}
@@ -33,6 +34,7 @@ use Rattle.server_acceptor.specs.declared.acceptor.Acceptor.{Acceptor}
 use Rattle.server_acceptor.specs.declared.asked.Asked.{Asked}
 use Rattle.server_acceptor.specs.declared.asked.Asked.TheVariants.{Got, NotYet, Skipped, Failed, Ended}
 use Rattle.server_acceptor.proofs.AskSteps.{marked_at, opened_at, opened_below}
+use Rattle.server_acceptor.proofs.MarkSteps.{marked_none, marks_without, row_none}
 use Rattle.server_acceptor.proofs.NoteSteps.{refused_append}
 
 -- ---- events of one listener alone
@@ -122,6 +124,18 @@ leaves_others s t (Faulted w ∷ es) are = absurd are
 leaves_others s t (Replaced w ∷ es) are = absurd are
 leaves_others s t (Retired w ∷ es) are = absurd are
 
+-- what they tell that came of it
+marks_got : (t : ℕ) → marks_of t (GotOf t ∷ []) ≡ gives ∷ []
+marks_got t = ap (λ b. cond b (gives ∷ []) [] ++ []) (alike t)
+
+marks_failed : (t : ℕ) (es : List Event) → marks_of t es ≡ [] → marks_of t (ListenerFailed t ∷ es) ≡ fails ∷ []
+marks_failed t es none = ap₂ (λ b marks. cond b (fails ∷ []) [] ++ marks) (alike t) none
+
+at_zero : (xs : List ℕ) (t : ℕ) → slice_index (slice_set xs t 0) t ≡ 0
+at_zero [] t = refl
+at_zero (x ∷ xs) zero = refl
+at_zero (x ∷ xs) (suc t) = at_zero xs t
+
 any_default : (xs : List Bool) (t : ℕ) (c d : Bool) → t < length xs → slice_index_or xs t c ≡ slice_index_or xs t d
 any_default [] t c d inside = absurd (omega arith)
 any_default (x ∷ xs) zero c d inside = refl
@@ -130,12 +144,15 @@ any_default (x ∷ xs) (suc t) c d inside = any_default xs t c d (omega arith)
 pub opened_false : (s : Core) (t : ℕ) → is_open s t ≡ true → slice_index_or s.ended t false ≡ false
 opened_false s t opened = any_default s.ended t false true (opened_below s t opened) ∙ opened_at s t opened
 
+marked_false : (s : Core) (t : ℕ) → is_open s t ≡ true → slice_index_or (slice_set s.ended t true) t false ≡ true
+marked_false s t opened = any_default (slice_set s.ended t true) t false true (omega (arith, length-set s.ended t true, opened_below s t opened)) ∙ marked_at s.ended t
+
 not_inside : (t v : ℕ) → IsOutside t (t + 1) v → v ≢ t
 not_inside t v (inl below) same = absurd (omega arith)
 not_inside t v (inr above) same = absurd (omega arith)
 
 -- ---- the acceptor, before and after
-module _ {Li L : Type 0} (given : Li → ℕ) (left : Li → Option (List L)) (identity : L → Identity) (ended : Li → Bool) (faults : Li → ℕ)
+module _ {Li L : Type 0} (given : Li → ℕ) (left : Li → Option (List L)) (rest : Li → Option (List Mark)) (identity : L → Identity) (ended : Li → Bool) (faults : Li → ℕ)
     (before after : List Li) (a b : Acceptor L) (t : ℕ)
     (opened : is_open (core_of a) t ≡ true) (ready : all_ready a ≡ true) (asks_at : AsksAt before after t)
     (never_falls : given_at faults before t ≤ given_at faults after t)
@@ -177,16 +194,22 @@ module _ {Li L : Type 0} (given : Li → ℕ) (left : Li → Option (List L)) (i
     failed_other : (v : ℕ) → v ≢ t → count_by (is_failed v) es ≡ 0
     failed_other v other = none_of (is_failed v) t refl (unlike t v other) refl es are
 
+    none_other : (v : ℕ) → v ≢ t → marks_of v es ≡ []
+    none_other v other = marks_without v es (got_other v other) (failed_other v other)
+
     refused_still : refused (Some []) (events_of b) ≡ refused (Some []) (events_of a)
     refused_still = ap (refused (Some [])) added ∙ refused_append (Some []) a.events.items es ∙ refused_same (refused (Some []) a.events.items) t es are
 
     does : {D : Type 0} (taken : D → Option (List (Entry L))) (count served : D → ℕ) (d : D) → (count d < 2 ^ 64) × (served d < 2 ^ 64)
         → given_at given after t ≡ given_at given before t + count_by (is_got t) es
+        → rest_at rest before t ≡ option_map (λ marks. marks_of t es ++ marks) (rest_at rest after t)
+        → slice_index b.core.failures t ≡ in_a_row (slice_index a.core.failures t) (marks_of t es)
         → (0 < count_by (is_failed t) es → Rose (given_at faults before t) (given_at faults after t))
         → (slice_index_or b.core.ended t false ≡ true → (HasEnded ended after t × (slice_index b.core.failures t ≢ a.retry_limit)) ⊎ ((slice_index b.core.failures t ≡ a.retry_limit) × Rose (given_at faults before t) (given_at faults after t)))
+        → (HasEnded ended after t → (slice_index_or b.core.ended t false ≡ true) × (slice_index b.core.failures t ≢ a.retry_limit))
         → count_by (is_failed t) es ≤ 1
-        → AskDoes given left identity ended faults taken count served before after a b t d
-    does taken count served d fits got failed ends once = record {
+        → AskDoes given left rest identity ended faults taken count served before after a b t d
+    does taken count served d fits got marked failures failed ends marks once = record {
       proceeds = record {
         more = es;
         appended = added;
@@ -202,6 +225,15 @@ module _ {Li L : Type 0} (given : Li → ℕ) (left : Li → Option (List L)) (i
             failed = λ v some. elim (cases_eq v t) [
               | inl same ↦ subst (λ x. Rose (given_at faults before x) (given_at faults after x)) (sym same) (failed (subst (λ x. 0 < count_by (is_failed x) es) same some))
               | inr other ↦ absurd (omega (arith, some, failed_other v other))
+            ];
+            marked = λ v. elim (cases_eq v t) [
+              | inl same ↦ rw same marked
+              | inr other ↦ subst (λ o. option_and_then rest o ≡ option_map (λ marks. marks_of v es ++ marks) (rest_at rest after v)) (asks_at.others v other)
+                  (marked_none (rest_at rest after v) (marks_of v es) (none_other v other))
+            ];
+            failures = λ v. elim (cases_eq v t) [
+              | inl same ↦ rw same failures
+              | inr other ↦ row_none (slice_index a.core.failures v) (slice_index b.core.failures v) (marks_of v es) (none_other v other) (others.failures v other)
             ];
             sent_on = λ w. omega (arith, ap (λ ps. count_put identity ps.items w) only.parcels, none_of (is_sent w) t refl refl refl es are);
             back = λ w. omega (arith, ap (λ ns. count_back identity ns.items w) only.notes, none_of (is_back w) t refl refl refl es are);
@@ -229,6 +261,10 @@ module _ {Li L : Type 0} (given : Li → ℕ) (left : Li → Option (List L)) (i
             rises = λ v. elim (cases_eq v t) [
               | inl same ↦ rw same never_falls
               | inr other ↦ omega (arith, at_other faults v other)
+            ];
+            marks = λ v has. elim (cases_eq v t) [
+              | inl same ↦ inr (subst (λ x. (slice_index_or b.core.ended x false ≡ true) × (slice_index b.core.failures x ≢ a.retry_limit)) (sym same) (marks (subst (λ x. HasEnded ended after x) same has)))
+              | inr other ↦ inl (subst (λ o. IfSome o (λ li. ended li ≡ true)) (asks_at.others v other) has)
             ];
           };
           rings = record { parcels = ap (λ v. map ring_in v.items) only.parcels; notes = ap (λ v. map ring_out v.items) only.notes };
@@ -262,47 +298,71 @@ module _ {Li L : Type 0} (given : Li → ℕ) (left : Li → Option (List L)) (i
         counted_more v = ap (count_by (is_failed v)) added ∙ sum_by-append (λ e. cond (is_failed v e) 1 0) a.events.items es
 
   module _ {D : Type 0} (taken : D → Option (List (Entry L))) (count served : D → ℕ) (d : D) (fits : (count d < 2 ^ 64) × (served d < 2 ^ 64)) where
-    nothing : b.events.items ≡ a.events.items → given_at given after t ≡ given_at given before t → AskDoes given left identity ended faults taken count served before after a b t d
-    nothing events same =
+    nothing : b.events.items ≡ a.events.items → given_at given after t ≡ given_at given before t → rest_at rest after t ≡ rest_at rest before t → (HasEnded ended after t → ⊥) → AskDoes given left rest identity ended faults taken count served before after a b t d
+    nothing events same told going =
         let added : b.events.items ≡ a.events.items ++ [] = events ∙ sym (append-nil a.events.items) in
-        does [] tt added taken count served d fits (omega (arith, same)) (λ some. absurd (omega (arith, some)))
+        does [] tt added taken count served d fits (omega (arith, same)) (sym told ∙ marked_none (rest_at rest after t) [] refl)
+        (ap (λ (c : Core). slice_index c.failures t) (core_is [] tt added))
+        (λ some. absurd (omega (arith, some)))
         (λ over. absurd (true≢false (sym over ∙ ap (λ (c : Core). slice_index_or c.ended t false) (core_is [] tt added) ∙ opened_false a.core t opened)))
+        (λ has. absurd (going has))
         (omega arith)
 
+    goes_by : (es : List Event) (came : List Mark) → marks_of t es ≡ came → rest_at rest before t ≡ option_map (λ marks. came ++ marks) (rest_at rest after t)
+        → rest_at rest before t ≡ option_map (λ marks. marks_of t es ++ marks) (rest_at rest after t)
+    goes_by es came is marked = marked ∙ ap (λ all. option_map (λ marks. all ++ marks) (rest_at rest after t)) (sym is)
+
     -- by what was answered
-    pub ask_does : (waits skips : Li → ℕ) (now : ℕ) (asked : Asked) → slice_index a.core.failures t < a.retry_limit → IsAsked given waits skips faults ended before after a b t now asked
-        → AskDoes given left identity ended faults taken count served before after a b t d
-    ask_does waits skips now Got fewer is =
+    pub ask_does : (waits skips : Li → ℕ) (now : ℕ) (asked : Asked) → slice_index a.core.failures t < a.retry_limit → (HasEnded ended after t → asked ≡ Ended) → IsMarkedAs asked (rest_at rest before t) (rest_at rest after t)
+        → (asked ≡ Failed → slice_index b.core.failures t ≡ slice_index a.core.failures t + 1) → IsAsked given waits skips faults ended before after a b t now asked
+        → AskDoes given left rest identity ended faults taken count served before after a b t d
+    ask_does waits skips now Got fewer only_ended marked counted is =
         does (GotOf t ∷ []) (refl, tt) is.0 taken count served d fits (omega (arith, is.1, count_one (is_got t) (GotOf t) [], ap weight (alike t)))
+        (goes_by (GotOf t ∷ []) (gives ∷ []) (marks_got t) marked)
+        (ap (λ (c : Core). slice_index c.failures t) (core_is (GotOf t ∷ []) (refl, tt) is.0) ∙ at_zero a.core.failures t ∙ ap (in_a_row (slice_index a.core.failures t)) (sym (marks_got t)))
         (λ some. absurd (omega (arith, some, count_one (is_failed t) (GotOf t) [])))
         (λ over. absurd (true≢false (sym over ∙ ap (λ (c : Core). slice_index_or c.ended t false) (core_is (GotOf t ∷ []) (refl, tt) is.0) ∙ opened_false a.core t opened)))
+        (λ has. absurd (let e : Got ≡ Ended = only_ended has in cc))
         (omega (arith, count_one (is_failed t) (GotOf t) []))
-    ask_does waits skips now NotYet fewer is = nothing is.0 is.1
-    ask_does waits skips now Skipped fewer is = nothing is.0 is.1
-    ask_does waits skips now Failed fewer is = by_events is.0.events
+    ask_does waits skips now NotYet fewer only_ended marked counted is = nothing is.0 is.1 marked (λ has. let e : NotYet ≡ Ended = only_ended has in cc)
+    ask_does waits skips now Skipped fewer only_ended marked counted is = nothing is.0 is.1 marked (λ has. let e : Skipped ≡ Ended = only_ended has in cc)
+    ask_does waits skips now Failed fewer only_ended marked counted is = by_events is.0.events
       where
         by_events : ((b.events.items ≡ a.events.items ++ ListenerFailed t ∷ []) ⊎ ((b.events.items ≡ a.events.items ++ (ListenerFailed t ∷ ListenerEnded t ∷ [])) × (slice_index b.core.failures t ≡ b.retry_limit)))
-            → AskDoes given left identity ended faults taken count served before after a b t d
+            → AskDoes given left rest identity ended faults taken count served before after a b t d
         by_events (inl added) =
             does (ListenerFailed t ∷ []) (refl, tt) added taken count served d fits (omega (arith, is.1, count_one (is_got t) (ListenerFailed t) []))
+            (goes_by (ListenerFailed t ∷ []) (fails ∷ []) (marks_failed t [] refl) marked)
+            (counted refl ∙ ap (in_a_row (slice_index a.core.failures t)) (sym (marks_failed t [] refl)))
             (λ some. is.2)
             (λ over. absurd (true≢false (sym over ∙ ap (λ (c : Core). slice_index_or c.ended t false) (core_is (ListenerFailed t ∷ []) (refl, tt) added) ∙ opened_false a.core t opened)))
+            (λ has. absurd (let e : Failed ≡ Ended = only_ended has in cc))
             (omega (arith, count_one (is_failed t) (ListenerFailed t) [], ap weight (alike t)))
         by_events (inr both) =
             does (ListenerFailed t ∷ ListenerEnded t ∷ []) (refl, (refl, tt)) both.0 taken count served d fits (omega (arith, is.1, count_one (is_got t) (ListenerFailed t) (ListenerEnded t ∷ []), count_one (is_got t) (ListenerEnded t) []))
+            (goes_by (ListenerFailed t ∷ ListenerEnded t ∷ []) (fails ∷ []) (marks_failed t (ListenerEnded t ∷ []) refl) marked)
+            (counted refl ∙ ap (in_a_row (slice_index a.core.failures t)) (sym (marks_failed t (ListenerEnded t ∷ []) refl)))
             (λ some. is.2)
             (λ over. inr (both.1 ∙ only.retry_limit, is.2))
+            (λ has. absurd (let e : Failed ≡ Ended = only_ended has in cc))
             (omega (arith, count_one (is_failed t) (ListenerFailed t) (ListenerEnded t ∷ []), count_one (is_failed t) (ListenerEnded t) [], ap weight (alike t)))
-    ask_does waits skips now Ended fewer is =
+    ask_does waits skips now Ended fewer only_ended marked counted is =
         does (ListenerEnded t ∷ []) (refl, tt) is.0 taken count served d fits (omega (arith, is.1, count_one (is_got t) (ListenerEnded t) []))
+        (sym marked ∙ marked_none (rest_at rest after t) [] refl)
+        same
         (λ some. absurd (omega (arith, some, count_one (is_failed t) (ListenerEnded t) [])))
-        (λ over. inl (
-          is.2,
-          λ full.
-              let same : slice_index b.core.failures t ≡ slice_index a.core.failures t = ap (λ (c : Core). slice_index c.failures t) (core_is (ListenerEnded t ∷ []) (refl, tt) is.0) in
-              omega (arith, fewer, same, full),
-        ))
+        (λ over. inl (is.2, not_full))
+        (λ has. (over_now, not_full))
         (omega (arith, count_one (is_failed t) (ListenerEnded t) []))
+      where
+        same : slice_index b.core.failures t ≡ slice_index a.core.failures t
+        same = ap (λ (c : Core). slice_index c.failures t) (core_is (ListenerEnded t ∷ []) (refl, tt) is.0)
+
+        not_full : slice_index b.core.failures t ≢ a.retry_limit
+        not_full full = omega (arith, fewer, same, full)
+
+        over_now : slice_index_or b.core.ended t false ≡ true
+        over_now = ap (λ (c : Core). slice_index_or c.ended t false) (core_is (ListenerEnded t ∷ []) (refl, tt) is.0) ∙ marked_false a.core t opened
 
   -- ---- what the answer comes to
   out_kept : b.waiting ≡ a.waiting → out_of b ≡ out_of a

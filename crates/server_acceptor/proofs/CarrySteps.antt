@@ -14,7 +14,7 @@ use Rattle.server_run.specs.Delivery.{given_at, left_at, once_below, rise}
 use Rattle.server_run.specs.declared.entry.Entry.{Entry}
 use Rattle.server_jobs.specs.Cards.{Card, of_entry, of_parcel}
 use Rattle.server_acceptor.specs.Carrying.{Carries, IsInPlace, ParcelIsInPlace, came_back, each, has_place, has_serial, in_waiting, put}
-use Rattle.server_run.proofs.Lists.{first_left, once_below-more}
+use Rattle.server_acceptor.proofs.Giving.{first_left, once_below-more}
 use Rattle.server_acceptor.specs.AskingListeners.{AsksOnly, TakesUp}
 use Rattle.server_acceptor.specs.Listening.{AsksAt, Gives, GivesNone}
 use Rattle.server_acceptor.specs.Handing.{Hands}

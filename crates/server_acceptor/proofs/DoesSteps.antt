@@ -8,14 +8,17 @@ use Rattle.service_core.specs.Counts.{Rose}
 use Rattle.service_core.specs.Link.{Identity}
 use Rattle.server_core.specs.Runs.{AllAllowed, after_all}
 use Rattle.server_core.specs.declared.event.Event.{Event}
-use Rattle.server_run.specs.Delivery.{HasEnded, given_at}
+use Rattle.server_run.specs.Serving.{Untouched}
+use Rattle.server_run.specs.Delivery.{HasEnded, given_at, rest_at}
+use Rattle.server_run.specs.Listener.{Mark, in_a_row}
 use Rattle.server_run.specs.declared.entry.Entry.{Entry}
-use Rattle.server_run.proofs.Progress.{adds_none}
-use Rattle.server_acceptor.specs.Accepting.{Does, EndsByFault, Logged, Proceeds, TellsEnds, Untouched, is_back, is_failed, is_got, is_sent}
+use Rattle.server_acceptor.proofs.Giving.{adds_none}
+use Rattle.server_acceptor.specs.Accepting.{Does, EndsByFault, Logged, Proceeds, TellsEnds, is_back, is_failed, is_got, is_sent, marks_of}
 use Rattle.server_acceptor.specs.Acceptors.{all_ready, core_of, events_of, retry_limit_of}
 use Rattle.server_acceptor.specs.Carrying.{Carries}
 use Rattle.server_acceptor.specs.Logging.{AllOfUse}
 use Rattle.server_acceptor.proofs.LogSteps.{after_append, allowed_append, of_use_append}
+use Rattle.server_acceptor.proofs.MarkSteps.{marked_none, marked_trans, marks_append, row_append}
 use Rattle.server_acceptor.proofs.NoteSteps.{adds_trans, ends_later, receives_none, receives_trans}
 use Rattle.server_acceptor.specs.declared.acceptor.Acceptor.{Acceptor}
 
@@ -24,7 +27,7 @@ rose_either : (n m x y z : ℕ) → 0 < n + m → (0 < n → Rose x y) → (0 < 
 rose_either zero m x y z some f g e h = let r = g (omega arith) in omega arith
 rose_either (suc n) m x y z some f g e h = let r = f (omega arith) in omega arith
 
-module _ {Li L D : Type 0} (given : Li → ℕ) (left : Li → Option (List L)) (identity : L → Identity) (ended : Li → Bool) (faults : Li → ℕ)
+module _ {Li L D : Type 0} (given : Li → ℕ) (left : Li → Option (List L)) (rest : Li → Option (List Mark)) (identity : L → Identity) (ended : Li → Bool) (faults : Li → ℕ)
     (taken : D → Option (List (Entry L))) (count served : D → ℕ) where
   pub untouched_none : (ls : List Li) (d : D) → Untouched given left taken count served ls ls d d
   untouched_none ls d = record { given_same = λ t. refl; left_same = λ t. refl; keeps = record { list = refl; number = refl; number_served = refl } }
@@ -37,7 +40,7 @@ module _ {Li L D : Type 0} (given : Li → ℕ) (left : Li → Option (List L)) 
   }
 
   -- nothing happened
-  pub does_none : (ls : List Li) (a : Acceptor L) (d : D) → (count d < 2 ^ 64) × (served d < 2 ^ 64) → Does given left identity ended faults taken count served ls ls a a d d []
+  pub does_none : (ls : List Li) (a : Acceptor L) (d : D) → (count d < 2 ^ 64) × (served d < 2 ^ 64) → Does given left rest identity ended faults taken count served ls ls a a d d []
   does_none ls a d fits = record {
     logged = record {
       allowed = tt;
@@ -45,6 +48,8 @@ module _ {Li L D : Type 0} (given : Li → ℕ) (left : Li → Option (List L)) 
       core = refl;
       got = λ t. omega arith;
       failed = λ t some. absurd (omega (arith, some));
+      marked = λ t. marked_none (rest_at rest ls t) (marks_of t []) refl;
+      failures = λ t. refl;
       sent_on = λ w. omega arith;
       back = λ w. omega arith;
     };
@@ -54,7 +59,7 @@ module _ {Li L D : Type 0} (given : Li → ℕ) (left : Li → Option (List L)) 
       carries = λ first entries carries. subst (λ es. Carries given left identity first ls a es) (sym (append-nil entries)) carries;
     };
     awaits = record { stays_ready = λ r. r; early = λ early. untouched_none ls d; noted = λ n. n };
-    tells = record { ends = λ t before now. absurd (let e : false ≡ true = sym before ∙ now in cc); stays = λ t is. (refl, refl, is); rises = λ t. omega arith };
+    tells = record { ends = λ t before now. absurd (let e : false ≡ true = sym before ∙ now in cc); stays = λ t is. (refl, refl, is); rises = λ t. omega arith; marks = λ t has. inl has };
     rings = record { parcels = refl; notes = refl };
     receives = λ w. receives_none a w;
     as_many = refl;
@@ -64,7 +69,7 @@ module _ {Li L D : Type 0} (given : Li → ℕ) (left : Li → Option (List L)) 
     lacks = λ is. is;
   }
 
-  pub proceeds_none : (ls : List Li) (a : Acceptor L) (d : D) → (count d < 2 ^ 64) × (served d < 2 ^ 64) → Proceeds given left identity ended faults taken count served ls ls a a d d
+  pub proceeds_none : (ls : List Li) (a : Acceptor L) (d : D) → (count d < 2 ^ 64) × (served d < 2 ^ 64) → Proceeds given left rest identity ended faults taken count served ls ls a a d d
   proceeds_none ls a d fits = record { more = []; appended = sym (append-nil (events_of a)); does = does_none ls a d fits }
 
   module _ (l m n : List Li) (a b c : Acceptor L) (x y z : D) where
@@ -95,6 +100,13 @@ module _ {Li L D : Type 0} (given : Li → ℕ) (left : Li → Option (List L)) 
           let v = q.stays t u.2 in
           (v.0 ∙ u.0, v.1 ∙ u.1, v.2);
       rises = λ t. let u = p.rises t in let v = q.rises t in omega arith;
+      marks = λ t has. elim (q.marks t has) [
+        | inl then_has ↦ elim (p.marks t then_has) [
+          | inl had ↦ inl had
+          | inr marked ↦ let v = q.stays t marked.0 in inr (v.2, λ is. marked.1 (sym v.1 ∙ is))
+        ]
+        | inr marked ↦ inr marked
+      ];
     }
       where
         by_middle : (t : ℕ) → slice_index_or (core_of a).ended t false ≡ false → slice_index_or (core_of c).ended t false ≡ true → (e : Bool) → slice_index_or (core_of b).ended t false ≡ e
@@ -103,7 +115,7 @@ module _ {Li L D : Type 0} (given : Li → ℕ) (left : Li → Option (List L)) 
         by_middle t before now false is = rose_from limit t (p.rises t) (q.ends t is now)
 
     logged_trans : (xs ys : List Event) → ((t : ℕ) → given_at faults l t ≤ given_at faults m t) → ((t : ℕ) → given_at faults m t ≤ given_at faults n t)
-        → Logged given faults identity l m a b xs → Logged given faults identity m n b c ys → Logged given faults identity l n a c (xs ++ ys)
+        → Logged given rest faults identity l m a b xs → Logged given rest faults identity m n b c ys → Logged given rest faults identity l n a c (xs ++ ys)
     logged_trans xs ys first then_these p q = record {
       allowed = allowed_append (core_of a) xs ys p.allowed (subst (λ s. AllAllowed s ys) p.core q.allowed);
       of_use = of_use_append (core_of a) xs ys p.of_use (subst (λ s. AllOfUse s ys) p.core q.of_use);
@@ -111,12 +123,16 @@ module _ {Li L D : Type 0} (given : Li → ℕ) (left : Li → Option (List L)) 
       got = λ t. omega (arith, p.got t, q.got t, sum_by-append (λ e. cond (is_got t e) 1 0) xs ys);
       failed = λ t some. rose_either (count_by (is_failed t) xs) (count_by (is_failed t) ys) (given_at faults l t) (given_at faults m t) (given_at faults n t)
           (omega (arith, some, sum_by-append (λ e. cond (is_failed t e) 1 0) xs ys)) (p.failed t) (q.failed t) (first t) (then_these t);
+      marked = λ t. marked_trans (rest_at rest l t) (rest_at rest m t) (rest_at rest n t) (marks_of t xs) (marks_of t ys) (marks_of t (xs ++ ys)) (marks_append t xs ys) (p.marked t) (q.marked t);
+      failures = λ t.
+          q.failures t ∙ ap (λ k. in_a_row k (marks_of t ys)) (p.failures t) ∙ sym (row_append (slice_index (core_of a).failures t) (marks_of t xs) (marks_of t ys))
+          ∙ ap (in_a_row (slice_index (core_of a).failures t)) (sym (marks_append t xs ys));
       sent_on = λ w. omega (arith, p.sent_on w, q.sent_on w, sum_by-append (λ e. cond (is_sent w e) 1 0) xs ys);
       back = λ w. omega (arith, p.back w, q.back w, sum_by-append (λ e. cond (is_back w e) 1 0) xs ys);
     }
 
-    pub does_trans : (xs ys : List Event) → Does given left identity ended faults taken count served l m a b x y xs → Does given left identity ended faults taken count served m n b c y z ys
-        → Does given left identity ended faults taken count served l n a c x z (xs ++ ys)
+    pub does_trans : (xs ys : List Event) → Does given left rest identity ended faults taken count served l m a b x y xs → Does given left rest identity ended faults taken count served m n b c y z ys
+        → Does given left rest identity ended faults taken count served l n a c x z (xs ++ ys)
     does_trans xs ys p q = record {
       logged = logged_trans xs ys p.tells.rises q.tells.rises p.logged q.logged;
       passes = record {
@@ -140,8 +156,8 @@ module _ {Li L D : Type 0} (given : Li → ℕ) (left : Li → Option (List L)) 
       lacks = λ is. q.lacks (p.lacks is);
     }
 
-    pub proceeds_trans : Proceeds given left identity ended faults taken count served l m a b x y → Proceeds given left identity ended faults taken count served m n b c y z
-        → Proceeds given left identity ended faults taken count served l n a c x z
+    pub proceeds_trans : Proceeds given left rest identity ended faults taken count served l m a b x y → Proceeds given left rest identity ended faults taken count served m n b c y z
+        → Proceeds given left rest identity ended faults taken count served l n a c x z
     proceeds_trans p q = record {
       more = p.more ++ q.more;
       appended = q.appended ∙ ap (λ es. es ++ q.more) p.appended ∙ append_assoc (events_of a) p.more q.more;
@@ -149,5 +165,5 @@ module _ {Li L D : Type 0} (given : Li → ℕ) (left : Li → Option (List L)) 
     }
 
     -- a worker that ends by a fault after that
-    pub fault_after : (w : ℕ) → Proceeds given left identity ended faults taken count served l m a b x y → EndsByFault b c w → EndsByFault a c w
+    pub fault_after : (w : ℕ) → Proceeds given left rest identity ended faults taken count served l m a b x y → EndsByFault b c w → EndsByFault a c w
     fault_after w p e = ends_later a b c w (p.does.receives w) e

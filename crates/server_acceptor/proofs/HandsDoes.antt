@@ -8,14 +8,18 @@ use Rattle.service_core.specs.Link.{Identity}
 use Rattle.server_core.specs.Core.{Core}
 use Rattle.server_core.specs.declared.event.Event.{Event}
 use Rattle.server_core.specs.declared.event.Event.TheVariants.{Notice, Back as BackOf}
+use Rattle.server_run.specs.Delivery.{rest_at}
+use Rattle.server_run.specs.Listener.{Mark}
+use Rattle.server_run.specs.Serving.{Untouched}
 use Rattle.server_run.specs.Done.{Adds}
 use Rattle.server_run.specs.declared.entry.Entry.{Entry}
-use Rattle.server_acceptor.specs.Accepting.{Does, Proceeds, TellsEnds, Untouched, is_failed, is_got, is_sent}
+use Rattle.server_acceptor.specs.Accepting.{Does, Proceeds, TellsEnds, is_failed, is_got, is_sent, marks_of}
 use Rattle.server_acceptor.specs.Acceptors.{all_ready}
 use Rattle.server_acceptor.specs.Handing.{AllReturn, Hands}
 use Rattle.server_acceptor.specs.Rings.{count_put, ring_in}
 use Rattle.server_acceptor.specs.declared.acceptor.Acceptor.{Acceptor}
 use Rattle.server_acceptor.proofs.CarrySteps.{carries_handed}
+use Rattle.server_acceptor.proofs.MarkSteps.{marked_none, marks_without, row_none}
 use Rattle.server_acceptor.proofs.NoteSteps.{same_workers}
 
 -- no such event comes with those of what came back
@@ -37,15 +41,19 @@ none_failed events t all = count_returns (is_failed t) (λ w. refl) (λ w. refl)
 pub none_sent : (events : List Event) (w : ℕ) → AllReturn events → count_by (is_sent w) events ≡ 0
 none_sent events w all = count_returns (is_sent w) (λ w. refl) (λ w. refl) events all
 
+none_marked : (events : List Event) (t : ℕ) → AllReturn events → marks_of t events ≡ []
+none_marked events t all = marks_without t events (none_got events t all) (none_failed events t all)
+
 -- the core tells no more of the listeners
 pub tells_same : {Li : Type 0} (ended : Li → Bool) (faults : Li → ℕ) (retry_limit : ℕ) (ls : List Li) (s t : Core) → t.ended ≡ s.ended → t.failures ≡ s.failures → TellsEnds ended faults retry_limit ls ls s t
 tells_same ended faults retry_limit ls s t over failures = record {
   ends = λ v before now. absurd (true≢false (sym now ∙ ap (λ xs. slice_index_or xs v false) over ∙ before));
   stays = λ v is. (refl, ap (λ xs. slice_index xs v) failures, ap (λ xs. slice_index_or xs v false) over ∙ is);
+  marks = λ v has. inl has;
   rises = λ v. omega arith;
 }
 
-module _ {Li L D : Type 0} (given : Li → ℕ) (left : Li → Option (List L)) (identity : L → Identity) (ended : Li → Bool) (faults : Li → ℕ)
+module _ {Li L D : Type 0} (given : Li → ℕ) (left : Li → Option (List L)) (rest : Li → Option (List Mark)) (identity : L → Identity) (ended : Li → Bool) (faults : Li → ℕ)
     (taken : D → Option (List (Entry L))) (count served : D → ℕ) (ls : List Li) (a b : Acceptor L) (old new : D) where
   -- nothing was handed on before all are ready
   early_hands : (count old < 2 ^ 64) × (served old < 2 ^ 64) → Hands identity taken count served a b old new → all_ready b ≡ false → Untouched given left taken count served ls ls old new
@@ -64,7 +72,7 @@ module _ {Li L D : Type 0} (given : Li → ℕ) (left : Li → Option (List L)) 
       same None = refl
       same (Some entries) = ap Some (append-nil entries)
 
-  pub hands_does : (count old < 2 ^ 64) × (served old < 2 ^ 64) → (h : Hands identity taken count served a b old new) → Does given left identity ended faults taken count served ls ls a b old new h.logs.more
+  pub hands_does : (count old < 2 ^ 64) × (served old < 2 ^ 64) → (h : Hands identity taken count served a b old new) → Does given left rest identity ended faults taken count served ls ls a b old new h.logs.more
   hands_does fits h = record {
     logged = record {
       allowed = h.logs.allowed;
@@ -72,6 +80,8 @@ module _ {Li L D : Type 0} (given : Li → ℕ) (left : Li → Option (List L)) 
       core = h.logs.core;
       got = λ t. omega (arith, none_got h.logs.more t h.returns);
       failed = λ t some. absurd (omega (arith, some, none_failed h.logs.more t h.returns));
+      marked = λ t. marked_none (rest_at rest ls t) (marks_of t h.logs.more) (none_marked h.logs.more t h.returns);
+      failures = λ t. row_none (slice_index a.core.failures t) (slice_index b.core.failures t) (marks_of t h.logs.more) (none_marked h.logs.more t h.returns) (ap (λ xs. slice_index xs t) h.failures);
       sent_on = λ w. omega (arith, none_sent h.logs.more w h.returns, ap (λ v. count_put identity v.items w) h.parcels);
       back = h.backs;
     };
@@ -91,5 +101,5 @@ module _ {Li L D : Type 0} (given : Li → ℕ) (left : Li → Option (List L)) 
     lacks = λ is. h.lacks_room ∙ is;
   }
 
-  pub hands_proceeds : (count old < 2 ^ 64) × (served old < 2 ^ 64) → Hands identity taken count served a b old new → Proceeds given left identity ended faults taken count served ls ls a b old new
+  pub hands_proceeds : (count old < 2 ^ 64) × (served old < 2 ^ 64) → Hands identity taken count served a b old new → Proceeds given left rest identity ended faults taken count served ls ls a b old new
   hands_proceeds fits h = record { more = h.logs.more; appended = h.logs.appended; does = hands_does fits h }

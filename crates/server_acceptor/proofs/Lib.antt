@@ -2,9 +2,12 @@ pub mod AskDoes
 pub mod AskSteps
 pub mod CarrySteps
 pub mod DoesSteps
+pub mod Failing
+pub mod Giving
 pub mod HandSteps
 pub mod HandsDoes
 pub mod LogSteps
+pub mod MarkSteps
 pub mod NewSteps
 pub mod NoteSteps
 pub mod OnceSteps

@@ -21,7 +21,7 @@ use Rattle.server_core.specs.Core.{Core, held}
 use Rattle.server_core.specs.declared.event.Event.{Event}
 use Rattle.server_acceptor.specs.Logging.{Logs}
 use Rattle.server_acceptor.proofs.LogSteps.{logs_none, logs_trans}
-use Rattle.server_run.proofs.Progress.{adds_none}
+use Rattle.server_acceptor.proofs.Giving.{adds_none}
 use Rattle.server_jobs.specs.Cards.{Card, of_entry, of_note}
 use Rattle.server_acceptor.specs.Carrying.{came_back}
 use Rattle.server_acceptor.specs.Rings.{ring_out}

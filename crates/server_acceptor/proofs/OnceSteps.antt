@@ -4,6 +4,7 @@ use Rattle.std.specs.Prelude.{◌&&◌, not, count_by, nat_lt}
 use Rattle.server_core.specs.Core.{is_open}
 use Rattle.service_core.specs.Link.{Identity}
 use Rattle.server_run.specs.Done.{Keeps}
+use Rattle.server_run.specs.Listener.{Mark}
 use Rattle.server_run.specs.declared.entry.Entry.{Entry}
 use Rattle.server_acceptor.specs.Accepting.{AsksFrom, IsOutside, Proceeds, is_failed}
 use Rattle.server_acceptor.specs.Acceptors.{core_of, events_of}
@@ -45,22 +46,22 @@ open_then l m a b t p as_many opened = ap₂ (λ k e. nat_lt t k && not e) as_ma
 pub failures_then : {Li L : Type 0} (l m : List Li) (a b : Acceptor L) (t : ℕ) → AsksFrom l m a b 0 0 → count_by (is_failed t) (events_of b) ≡ count_by (is_failed t) (events_of a)
 failures_then l m a b t p = p.others t (nowhere t)
 
-module _ {Li L D : Type 0} (given : Li → ℕ) (left : Li → Option (List L)) (identity : L → Identity) (ended : Li → Bool) (faults : Li → ℕ)
+module _ {Li L D : Type 0} (given : Li → ℕ) (left : Li → Option (List L)) (rest : Li → Option (List Mark)) (identity : L → Identity) (ended : Li → Bool) (faults : Li → ℕ)
     (taken : D → Option (List (Entry L))) (count served : D → ℕ) (l m : List Li) (a r b : Acceptor L) (d e : D) (t : ℕ)
     (fits : (count d < 2 ^ 64) × (served d < 2 ^ 64)) (room : MakesRoom a r) (keeps : Keeps taken count served d e)
-    (did : AskDoes given left identity ended faults taken count served l m r b t e) where
+    (did : AskDoes given left rest identity ended faults taken count served l m r b t e) where
   -- room was made, and the listener was asked
-  pub once_proceeds : Proceeds given left identity ended faults taken count served l m a b d e
-  once_proceeds = proceeds_trans given left identity ended faults taken count served l l m a r b d e e
-      (room_proceeds given left identity ended faults taken count served l a r d e fits room keeps) did.proceeds
+  pub once_proceeds : Proceeds given left rest identity ended faults taken count served l m a b d e
+  once_proceeds = proceeds_trans given left rest identity ended faults taken count served l l m a r b d e e
+      (room_proceeds given left rest identity ended faults taken count served l a r d e fits room keeps) did.proceeds
 
   pub once_asks : AsksFrom l m a b t (t + 1)
   once_asks = asks_after l l m a r b t (t + 1) (room_asks_none l a r 0 0 room) did.asks
 
-  module _ (c : Acceptor L) (f : D) (placed : Proceeds given left identity ended faults taken count served m m b c e f) (none : AsksFrom m m b c 0 0) where
+  module _ (c : Acceptor L) (f : D) (placed : Proceeds given left rest identity ended faults taken count served m m b c e f) (none : AsksFrom m m b c 0 0) where
     -- and what came was put on a ring
-    pub once_placed : Proceeds given left identity ended faults taken count served l m a c d f
-    once_placed = proceeds_trans given left identity ended faults taken count served l m m a b c d e f once_proceeds placed
+    pub once_placed : Proceeds given left rest identity ended faults taken count served l m a c d f
+    once_placed = proceeds_trans given left rest identity ended faults taken count served l m m a b c d e f once_proceeds placed
 
     pub once_asked : AsksFrom l m a c t (t + 1)
     once_asked = asks_then l m m a b c t (t + 1) once_asks none

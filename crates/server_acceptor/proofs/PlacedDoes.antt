@@ -16,11 +16,13 @@ use Rattle.server_core.specs.Runs.{after_all}
 use Rattle.server_core.specs.declared.event.Event.{Event}
 use Rattle.server_core.specs.declared.event.Event.TheVariants.{Notice, RingFull, Sent as SentTo}
 use Rattle.server_core.proofs.Orders.{or_true}
+use Rattle.server_run.specs.Delivery.{rest_at}
+use Rattle.server_run.specs.Listener.{Mark}
 use Rattle.server_run.specs.declared.entry.Entry.{Entry}
-use Rattle.server_run.proofs.Progress.{adds_none}
+use Rattle.server_acceptor.proofs.Giving.{adds_none}
 use Rattle.server_jobs.specs.declared.note.Note.TheVariants.{Ready}
 use Rattle.server_jobs.specs.declared.waiting.Waiting.{Waiting as IsWaiting}
-use Rattle.server_acceptor.specs.Accepting.{AsksFrom, Does, HasTaken, HasTold, IsRefused, IsShort, Proceeds, is_back, is_failed, is_got, is_sent, once_more, received_at, refused, refused_by}
+use Rattle.server_acceptor.specs.Accepting.{AsksFrom, Does, HasTaken, HasTold, IsRefused, IsShort, Proceeds, is_back, is_failed, is_got, is_sent, marks_of, once_more, received_at, refused, refused_by}
 use Rattle.server_acceptor.specs.Acceptors.{events_of, out_of}
 use Rattle.server_acceptor.specs.Carrying.{Carries}
 use Rattle.server_acceptor.specs.Handing.{Hands}
@@ -35,6 +37,7 @@ use Rattle.server_acceptor.proofs.CarrySteps.{carries_placed, count_kept, count_
 use Rattle.server_acceptor.proofs.DoesSteps.{untouched_none}
 use Rattle.server_acceptor.proofs.HandsDoes.{none_failed, tells_same}
 use Rattle.server_acceptor.proofs.LogSteps.{after_append}
+use Rattle.server_acceptor.proofs.MarkSteps.{marked_none, marks_without, row_none}
 use Rattle.server_acceptor.proofs.NoteSteps.{refused_append, short_still}
 use Rattle.server_acceptor.proofs.PlaceSteps.{sum_higher}
 use Rattle.server_acceptor.proofs.Rotating.{distinct_times, times, times_none}
@@ -161,10 +164,10 @@ module _ {L : Type 0} (identity : L → Identity) (a b : Acceptor L) where
         rings = ap (λ ps. map ring_in ps.items) p.parcels;
       }
 
-module _ {Li L D : Type 0} (given : Li → ℕ) (left : Li → Option (List L)) (identity : L → Identity) (ended : Li → Bool) (faults : Li → ℕ)
+module _ {Li L D : Type 0} (given : Li → ℕ) (left : Li → Option (List L)) (rest : Li → Option (List Mark)) (identity : L → Identity) (ended : Li → Bool) (faults : Li → ℕ)
     (taken : D → Option (List (Entry L))) (count served : D → ℕ) (ls : List Li) (a b : Acceptor L) (d : D) (placed : Placed) where
   pub placed_does : (count d < 2 ^ 64) × (served d < 2 ^ 64) → (logs : Logs a.core b.core a.events.items b.events.items) → Stays a b → IsPlaced a b placed
-      → Does given left identity ended faults taken count served ls ls a b d d logs.more
+      → Does given left rest identity ended faults taken count served ls ls a b d d logs.more
   placed_does fits logs s p =
       let k = placing identity a b logs placed p in
       record {
@@ -174,6 +177,8 @@ module _ {Li L D : Type 0} (given : Li → ℕ) (left : Li → Option (List L)) 
           core = logs.core;
           got = λ t. omega (arith, k.got t);
           failed = λ t some. absurd (omega (arith, some, k.failed t));
+          marked = λ t. marked_none (rest_at rest ls t) (marks_of t logs.more) (marks_without t logs.more (k.got t) (k.failed t));
+          failures = λ t. row_none (slice_index a.core.failures t) (slice_index b.core.failures t) (marks_of t logs.more) (marks_without t logs.more (k.got t) (k.failed t)) (ap (λ xs. slice_index xs t) k.failures);
           sent_on = k.sent_on;
           back = λ w. omega (arith, k.back w, ap (λ v. count_back identity v.items w) s.notes);
         };
@@ -184,7 +189,7 @@ module _ {Li L D : Type 0} (given : Li → ℕ) (left : Li → Option (List L)) 
         };
         awaits = record {
           stays_ready = λ all. ap (λ v. list_all (λ r. r) v.items) s.ready ∙ all;
-          early = λ less. untouched_none given left identity ended faults taken count served ls d;
+          early = λ less. untouched_none given left rest identity ended faults taken count served ls d;
           noted = λ told w on. subst (λ v. IfSome (slice_get v.items w) (λ c. Contains (received c) Ready)) (sym s.notes) (told w (ap (λ v. slice_index_or v.items w false) (sym s.ready) ∙ on));
         };
         tells = tells_same ended faults a.retry_limit ls a.core b.core k.over k.failures;
@@ -198,7 +203,7 @@ module _ {Li L D : Type 0} (given : Li → ℕ) (left : Li → Option (List L)) 
       }
 
   pub placed_proceeds : (count d < 2 ^ 64) × (served d < 2 ^ 64) → Logs a.core b.core a.events.items b.events.items → Stays a b → IsPlaced a b placed
-      → Proceeds given left identity ended faults taken count served ls ls a b d d
+      → Proceeds given left rest identity ended faults taken count served ls ls a b d d
   placed_proceeds fits logs s p = record { more = logs.more; appended = logs.appended; does = placed_does fits logs s p }
 
 module _ {L : Type 0} (identity : L → Identity) (a b : Acceptor L) (logs : Logs a.core b.core a.events.items b.events.items) (placed : Placed) (p : IsPlaced a b placed) where

@@ -1,5 +1,5 @@
 -- That room was made, or was refused.
-use Rattle.std.proofs.Common.{◌≡◌, ◌^◌, ◌<◌, ◌≤◌, ◌++◌, ◌∷◌, [], ℕ, suc, ◌+◌, ◌*◌, Bool, true, false, List, length, map, All, Any, Contains, Option, Some, None, IfSome, refl, sym, ◌∙◌, ap, ap₂, arith, subst}
+use Rattle.std.proofs.Common.{◌≡◌, ◌^◌, ◌<◌, ◌≤◌, ◌++◌, ◌∷◌, [], ℕ, suc, ◌+◌, ◌*◌, Bool, true, false, List, length, map, All, Any, Contains, Option, Some, None, IfSome, refl, sym, ◌∙◌, ap, ap₂, arith, subst, inl}
 use Rattle.std.specs.Prelude.{count_by, nat_lt, slice_get, slice_index, slice_index_or, sum}
 use Rattle.std.specs.List.{list_all}
 use Rattle.std.specs.Option.{option_map}
@@ -9,19 +9,21 @@ use Rattle.std.proofs.lemmas.List.Sums.{sum_by-cons}
 use Rattle.rtrb.specs.Ring.{received, sent}
 use Rattle.service_core.specs.Link.{Identity}
 use Rattle.server_core.specs.Core.{may_take}
-use Rattle.server_run.specs.Delivery.{once_below}
+use Rattle.server_run.specs.Delivery.{once_below, rest_at}
 use Rattle.server_run.specs.Done.{Adds, Keeps}
+use Rattle.server_run.specs.Listener.{Mark}
 use Rattle.server_run.specs.declared.entry.Entry.{Entry}
 use Rattle.server_jobs.specs.Cards.{Card}
 use Rattle.server_jobs.specs.declared.note.Note.TheVariants.{Back, Ready}
 use Rattle.server_jobs.specs.declared.waiting.Waiting.{Waiting}
-use Rattle.server_acceptor.specs.Accepting.{AsksFrom, MayAsk, Proceeds, is_failed, received_at}
+use Rattle.server_acceptor.specs.Accepting.{AsksFrom, MayAsk, Proceeds, is_failed, marks_of, received_at}
 use Rattle.server_acceptor.specs.Acceptors.{events_of}
 use Rattle.server_acceptor.specs.Asking.{MakesRoom}
 use Rattle.server_acceptor.specs.Carrying.{Carries, IsInPlace, ParcelIsInPlace, came_back, each, has_place, has_serial, in_waiting, put}
 use Rattle.server_acceptor.specs.Notes.{count_back}
 use Rattle.server_acceptor.specs.Rings.{count_put, ring_in, ring_out}
 use Rattle.server_acceptor.specs.declared.acceptor.Acceptor.{Acceptor}
+use Rattle.server_acceptor.proofs.MarkSteps.{marked_none}
 
 module _ {Li L : Type 0} (given : Li → ℕ) (left : Li → Option (List L)) (identity : L → Identity) (first now : List Li) where
   carries_room : (a b : Acceptor L) (entries : List (Entry L)) → MakesRoom a b → Carries given left identity first now a entries → Carries given left identity first now b entries
@@ -54,10 +56,10 @@ module _ {L D : Type 0} (taken : D → Option (List (Entry L))) (count served : 
     number_served = let n = k.number_served in let f = fits.1 in omega arith;
   }
 
-module _ {Li L D : Type 0} (given : Li → ℕ) (left : Li → Option (List L)) (identity : L → Identity) (ended : Li → Bool) (faults : Li → ℕ)
+module _ {Li L D : Type 0} (given : Li → ℕ) (left : Li → Option (List L)) (rest : Li → Option (List Mark)) (identity : L → Identity) (ended : Li → Bool) (faults : Li → ℕ)
     (taken : D → Option (List (Entry L))) (count served : D → ℕ) where
   pub room_proceeds : (ls : List Li) (a b : Acceptor L) (d e : D) → (count d < 2 ^ 64) × (served d < 2 ^ 64) → MakesRoom a b → Keeps taken count served d e
-      → Proceeds given left identity ended faults taken count served ls ls a b d e
+      → Proceeds given left rest identity ended faults taken count served ls ls a b d e
   room_proceeds ls a b d e fits s k = record {
     more = [];
     appended = ap (λ v. v.items) s.events ∙ sym (append-nil (events_of a));
@@ -68,6 +70,8 @@ module _ {Li L D : Type 0} (given : Li → ℕ) (left : Li → Option (List L)) 
         core = s.core;
         got = λ t. omega arith;
         failed = λ t some. absurd (omega (arith, some));
+        marked = λ t. marked_none (rest_at rest ls t) (marks_of t []) refl;
+        failures = λ t. ap (λ k. slice_index k.failures t) s.core;
         sent_on = λ w. omega (arith, ap (λ v. count_put identity v.items w) s.parcels);
         back = λ w. omega (arith, ap (λ v. count_back identity v.items w) s.notes);
       };
@@ -84,6 +88,7 @@ module _ {Li L D : Type 0} (given : Li → ℕ) (left : Li → Option (List L)) 
       tells = record {
         ends = λ t before now. absurd (let e : false ≡ true = sym before ∙ ap (λ k. slice_index_or k.ended t false) (sym s.core) ∙ now in cc);
         stays = λ t is. (refl, ap (λ k. slice_index k.failures t) s.core, ap (λ k. slice_index_or k.ended t false) s.core ∙ is);
+        marks = λ t has. inl has;
         rises = λ t. omega arith;
       };
       rings = record { parcels = ap (λ v. map ring_in v.items) s.parcels; notes = ap (λ v. map ring_out v.items) s.notes };

@@ -11,14 +11,15 @@ use Rattle.rtrb.specs.declared.producer.Producer.{Producer}
 use Rattle.service_core.specs.Link.{Identity}
 use Rattle.server_core.specs.Core.{Core, is_open}
 use Rattle.std.specs.List.{list_all}
-use Rattle.server_run.specs.Delivery.{once_below}
+use Rattle.server_run.specs.Delivery.{once_below, rest_at}
+use Rattle.server_run.specs.Listener.{Mark}
 use Rattle.server_run.specs.declared.entry.Entry.{Entry}
-use Rattle.server_run.proofs.Progress.{adds_none}
+use Rattle.server_acceptor.proofs.Giving.{adds_none}
 use Rattle.server_jobs.specs.Cards.{Card}
 use Rattle.server_jobs.specs.declared.note.Note.TheVariants.{Back, Ready}
 use Rattle.server_jobs.specs.declared.parcel.Parcel.{Parcel}
 use Rattle.server_jobs.specs.declared.parcel.Parcel.TheVariants.{Stop}
-use Rattle.server_acceptor.specs.Accepting.{Proceeds, received_at}
+use Rattle.server_acceptor.specs.Accepting.{Proceeds, marks_of, received_at}
 use Rattle.server_acceptor.specs.Acceptors.{events_of}
 use Rattle.server_acceptor.specs.Carrying.{Carries, IsInPlace, ParcelIsInPlace, came_back, each, has_place, has_serial, in_waiting, put}
 use Rattle.server_acceptor.specs.Notes.{count_back}
@@ -28,6 +29,7 @@ use Rattle.server_acceptor.specs.Stopping.{StopsOnly}
 use Rattle.server_acceptor.specs.declared.acceptor.Acceptor.{Acceptor}
 use Rattle.server_acceptor.proofs.CarrySteps.{all_kept, all_sent_on, count_kept, count_nothing, put_kept, put_more}
 use Rattle.server_acceptor.proofs.DoesSteps.{untouched_none}
+use Rattle.server_acceptor.proofs.MarkSteps.{marked_none}
 
 -- a stop went on a ring, or nothing
 abbrev pub PutsStop : {L : Type 0} → List (Producer (Parcel L) Global AnyItems) → List (Producer (Parcel L) Global AnyItems) → Type 0
@@ -83,10 +85,10 @@ module _ {Li L : Type 0} (given : Li → ℕ) (left : Li → Option (List L)) (i
         out = λ v. count_same identity a.parcels.items b.parcels.items v p ∙ c.out v ∙ sym (ap₂ (λ n o. count_back identity n.items v + slice_index o.out v) s.notes s.core);
       }
 
-module _ {Li L D : Type 0} (given : Li → ℕ) (left : Li → Option (List L)) (identity : L → Identity) (ended : Li → Bool) (faults : Li → ℕ)
+module _ {Li L D : Type 0} (given : Li → ℕ) (left : Li → Option (List L)) (rest : Li → Option (List Mark)) (identity : L → Identity) (ended : Li → Bool) (faults : Li → ℕ)
     (taken : D → Option (List (Entry L))) (count served : D → ℕ) where
   pub stop_proceeds : (ls : List Li) (a b : Acceptor L) (d : D) → (count d < 2 ^ 64) × (served d < 2 ^ 64) → StopsOnly a b → PutsStop a.parcels.items b.parcels.items → map ring_in b.parcels.items ≡ map ring_in a.parcels.items
-      → Proceeds given left identity ended faults taken count served ls ls a b d d
+      → Proceeds given left rest identity ended faults taken count served ls ls a b d d
   stop_proceeds ls a b d fits s p rings = record {
     more = [];
     appended = ap (λ v. v.items) s.events ∙ sym (append-nil (events_of a));
@@ -97,6 +99,8 @@ module _ {Li L D : Type 0} (given : Li → ℕ) (left : Li → Option (List L)) 
         core = s.core;
         got = λ t. omega arith;
         failed = λ t some. absurd (omega (arith, some));
+        marked = λ t. marked_none (rest_at rest ls t) (marks_of t []) refl;
+        failures = λ t. ap (λ k. slice_index k.failures t) s.core;
         sent_on = λ w. omega (arith, count_same identity a.parcels.items b.parcels.items w p);
         back = λ w. omega (arith, ap (λ v. count_back identity v.items w) s.notes);
       };
@@ -107,12 +111,13 @@ module _ {Li L D : Type 0} (given : Li → ℕ) (left : Li → Option (List L)) 
       };
       awaits = record {
         stays_ready = λ r. ap (λ v. list_all (λ ready. ready) v.items) s.ready ∙ r;
-        early = λ early. untouched_none given left identity ended faults taken count served ls d;
+        early = λ early. untouched_none given left rest identity ended faults taken count served ls d;
         noted = λ n w marked. subst (λ v. IfSome (slice_get v.items w) (λ c. Contains (received c) Ready)) (sym s.notes) (n w (ap (λ v. slice_index_or v.items w false) (sym s.ready) ∙ marked));
       };
       tells = record {
         ends = λ t before now. absurd (let e : false ≡ true = sym before ∙ ap (λ k. slice_index_or k.ended t false) (sym s.core) ∙ now in cc);
         stays = λ t is. (refl, ap (λ k. slice_index k.failures t) s.core, ap (λ k. slice_index_or k.ended t false) s.core ∙ is);
+        marks = λ t has. inl has;
         rises = λ t. omega arith;
       };
       rings = record { parcels = rings; notes = ap (λ v. map ring_out v.items) s.notes };

@@ -20,9 +20,10 @@ use Rattle.server_acceptor.proofs.DoesSteps.{does_trans}
 use Rattle.std.specs.Prelude.{sum, nat_lt, IsSomeAnd, count_by, is_some, slice_get, slice_index, slice_index_or}
 use Rattle.service_core.specs.Link.{Identity}
 use Rattle.server_run.specs.Delivery.{given_at}
+use Rattle.server_run.specs.Listener.{Mark, in_a_row}
 use Rattle.server_run.specs.declared.entry.Entry.{Entry}
 use Rattle.server_core.specs.declared.event.Event.{Event}
-use Rattle.server_acceptor.specs.Accepting.{AcceptGoesOn, AsksInTurn, Does, EndsByFault, HasHalted, HasTaken, HasTold, IsAskedOut, IsOver, IsShort, LacksStop, MayAsk, OnceEach, Proceeds, TellsEnds, is_back, is_failed, is_sent, received_at, refused, turn_of}
+use Rattle.server_acceptor.specs.Accepting.{AcceptGoesOn, AsksInTurn, Does, EndsByFault, HasHalted, HasTaken, HasTold, IsAskedOut, IsOver, IsShort, LacksStop, MayAsk, OnceEach, Proceeds, TellsEnds, is_back, is_failed, is_sent, marks_of, received_at, refused, turn_of}
 use Rattle.server_acceptor.specs.Acceptors.{all_ready, core_of, events_of, failed_of, first_of, lacks_room_of, listeners_of, places_of, waiting_of, workers_of}
 use Rattle.server_acceptor.specs.declared.acceptor.Acceptor.{Acceptor}
 
@@ -69,10 +70,10 @@ module _ {Li L : Type 0} (given : Li → ℕ) (left : Li → Option (List L)) (i
     out = λ v. ap (λ x. count_put identity x.items v) s.parcels ∙ c.out v ∙ sym (ap₂ (λ n o. count_back identity n.items v + slice_index o.out v) s.notes s.core);
   }
 
-module _ {Li L D : Type 0} (given : Li → ℕ) (left : Li → Option (List L)) (identity : L → Identity) (ended : Li → Bool) (faults : Li → ℕ)
+module _ {Li L D : Type 0} (given : Li → ℕ) (left : Li → Option (List L)) (rest : Li → Option (List Mark)) (identity : L → Identity) (ended : Li → Bool) (faults : Li → ℕ)
     (taken : D → Option (List (Entry L))) (count served : D → ℕ) (l m : List Li) (x y : D) (events : List Event) where
   -- a part that began at an acceptor that was the same
-  pub does_began : (a a2 b : Acceptor L) → SameBut a a2 → Does given left identity ended faults taken count served l m a b x y events → Does given left identity ended faults taken count served l m a2 b x y events
+  pub does_began : (a a2 b : Acceptor L) → SameBut a a2 → Does given left rest identity ended faults taken count served l m a b x y events → Does given left rest identity ended faults taken count served l m a2 b x y events
   does_began a a2 b s p = record {
     logged = record {
       allowed = subst (λ k. AllAllowed k events) (sym s.core) p.logged.allowed;
@@ -80,6 +81,8 @@ module _ {Li L D : Type 0} (given : Li → ℕ) (left : Li → Option (List L)) 
       core = p.logged.core ∙ ap (λ k. after_all k events) (sym s.core);
       got = p.logged.got;
       failed = p.logged.failed;
+      marked = p.logged.marked;
+      failures = λ t. p.logged.failures t ∙ ap (λ k. in_a_row (slice_index k.failures t) (marks_of t events)) (sym s.core);
       sent_on = λ w. p.logged.sent_on w ∙ ap (λ v. count_put identity v.items w + count_by (is_sent w) events) (sym s.parcels);
       back = λ w. p.logged.back w ∙ ap (λ v. count_back identity v.items w + count_by (is_back w) events) (sym s.notes);
     };
@@ -100,7 +103,7 @@ module _ {Li L D : Type 0} (given : Li → ℕ) (left : Li → Option (List L)) 
   }
 
   -- and one that came to an acceptor that is the same
-  pub does_came : (a b b2 : Acceptor L) → SameBut b b2 → Does given left identity ended faults taken count served l m a b x y events → Does given left identity ended faults taken count served l m a b2 x y events
+  pub does_came : (a b b2 : Acceptor L) → SameBut b b2 → Does given left rest identity ended faults taken count served l m a b x y events → Does given left rest identity ended faults taken count served l m a b2 x y events
   does_came a b b2 s p = record {
     logged = record {
       allowed = p.logged.allowed;
@@ -108,6 +111,8 @@ module _ {Li L D : Type 0} (given : Li → ℕ) (left : Li → Option (List L)) 
       core = s.core ∙ p.logged.core;
       got = p.logged.got;
       failed = p.logged.failed;
+      marked = p.logged.marked;
+      failures = λ t. ap (λ k. slice_index k.failures t) s.core ∙ p.logged.failures t;
       sent_on = λ w. ap (λ v. count_put identity v.items w) s.parcels ∙ p.logged.sent_on w;
       back = λ w. ap (λ v. count_back identity v.items w) s.notes ∙ p.logged.back w;
     };
@@ -128,22 +133,22 @@ module _ {Li L D : Type 0} (given : Li → ℕ) (left : Li → Option (List L)) 
   }
 
 -- A turn: it begins with no event, and ends with the stops, which are no events.
-module _ {Li L D : Type 0} (given : Li → ℕ) (left : Li → Option (List L)) (identity : L → Identity) (ended : Li → Bool) (faults : Li → ℕ)
+module _ {Li L D : Type 0} (given : Li → ℕ) (left : Li → Option (List L)) (rest : Li → Option (List Mark)) (identity : L → Identity) (ended : Li → Bool) (faults : Li → ℕ)
     (taken : D → Option (List (Entry L))) (count served : D → ℕ) (l m : List Li) (x y : D) where
   pub turn_does : (a began made next : Acceptor L) → SameBut began a → events_of began ≡ [] → SameBut made next → events_of next ≡ events_of made
-      → Proceeds given left identity ended faults taken count served l m began made x y → Does given left identity ended faults taken count served l m a next x y (events_of next)
+      → Proceeds given left rest identity ended faults taken count served l m began made x y → Does given left rest identity ended faults taken count served l m a next x y (events_of next)
   turn_does a began made next same none kept events p =
       let all : events_of next ≡ p.more = events ∙ p.appended ∙ ap (λ es. es ++ p.more) none in
-      subst (λ es. Does given left identity ended faults taken count served l m a next x y es) (sym all)
-      (does_began given left identity ended faults taken count served l m x y p.more began a next same
-      (does_came given left identity ended faults taken count served l m x y p.more began made next kept p.does))
+      subst (λ es. Does given left rest identity ended faults taken count served l m a next x y es) (sym all)
+      (does_began given left rest identity ended faults taken count served l m x y p.more began a next same
+      (does_came given left rest identity ended faults taken count served l m x y p.more began made next kept p.does))
 
-  pub turn_does_stops : (a next last : Acceptor L) → StopsOnly next last → Proceeds given left identity ended faults taken count served m m next last y y
-      → Does given left identity ended faults taken count served l m a next x y (events_of next) → Does given left identity ended faults taken count served l m a last x y (events_of last)
+  pub turn_does_stops : (a next last : Acceptor L) → StopsOnly next last → Proceeds given left rest identity ended faults taken count served m m next last y y
+      → Does given left rest identity ended faults taken count served l m a next x y (events_of next) → Does given left rest identity ended faults taken count served l m a last x y (events_of last)
   turn_does_stops a next last only q p =
       let none : events_of next ++ q.more ≡ events_of last = sym q.appended in
-      subst (λ es. Does given left identity ended faults taken count served l m a last x y es) none
-      (does_trans given left identity ended faults taken count served l m m a next last x y y (events_of next) q.more p q.does)
+      subst (λ es. Does given left rest identity ended faults taken count served l m a last x y es) none
+      (does_trans given left rest identity ended faults taken count served l m m a next last x y y (events_of next) q.more p q.does)
 
 -- why a turn goes on
 short_or_not : {L : Type 0} (a : Acceptor L) → IsShort a ⊎ (IsShort a → ⊥)

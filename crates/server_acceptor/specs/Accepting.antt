@@ -1,7 +1,7 @@
 -- What a turn of the acceptor does to the listeners, the rings and the holder of what is done.
 use Rattle.std.specs.Prelude.{◌≡◌, ◌≢◌, ◌⊎◌, ◌≤◌, ◌<◌, ℕ, ◌+◌, ◌-◌, ◌*◌, ◌^◌, ◌++◌, ◌∷◌, [], min, cond, nat_lt, Bool, true, false, List, length, sum, All, Contains, count_by, nat_eq, Option, Some, None, IfSome, IsSomeAnd, slice_get, slice_index, slice_index_or, is_some}
 use Rattle.std.specs.FinSet as set
-use Rattle.std.specs.Option.{option_map_or}
+use Rattle.std.specs.Option.{option_map, option_map_or}
 use Rattle.rtrb.specs.Ring.{known_items, received}
 use Rattle.rtrb.specs.declared.consumer.Consumer.{Consumer}
 use Rattle.server_core.specs.Core.{Core, in_order}
@@ -10,8 +10,10 @@ use Rattle.server_core.specs.declared.event.Event.{Event}
 use Rattle.server_core.specs.declared.event.Event.TheVariants.{Back, Got, Sent, RingFull, ListenerFailed}
 use Rattle.service_core.specs.Counts.{Rose}
 use Rattle.service_core.specs.Link.{Identity}
-use Rattle.server_run.specs.Delivery.{HasEnded, given_at, left_at, rise}
-use Rattle.server_run.specs.Done.{Adds, Keeps}
+use Rattle.server_run.specs.Delivery.{HasEnded, given_at, rest_at, rise}
+use Rattle.server_run.specs.Done.{Adds}
+use Rattle.server_run.specs.Listener.{Mark, fails, gives, in_a_row}
+use Rattle.server_run.specs.Serving.{Untouched}
 use Rattle.server_run.specs.declared.entry.Entry.{Entry}
 use Rattle.server_run.specs.declared.report.End.{End}
 use Rattle.server_run.specs.declared.report.End.TheVariants.{Drained, Memory}
@@ -42,14 +44,29 @@ abbrev pub is_back : ℕ → Event → Bool
 is_back w (Back v) = nat_eq v w
 is_back w _ = false
 
+-- what an event tells that came of this listener
+abbrev pub mark_of : ℕ → Event → List Mark
+mark_of t (Got s) = cond (nat_eq s t) (gives ∷ []) []
+mark_of t (ListenerFailed s) = cond (nat_eq s t) (fails ∷ []) []
+mark_of t _ = []
+
+-- what these events tell that came of it, in order
+abbrev pub marks_of : ℕ → List Event → List Mark
+marks_of t [] = []
+marks_of t (e ∷ es) = mark_of t e ++ marks_of t es
+
 -- These events happened, each allowed and of use where it stands. The core is what they make of it, and they tell what the listeners
 -- and the rings did.
-pub record Logged {Li L : Type 0} (given faults : Li → ℕ) (identity : L → Identity) (before after : List Li) (a b : Acceptor L) (events : List Event) : Type 0 where
+pub record Logged {Li L : Type 0} (given : Li → ℕ) (rest : Li → Option (List Mark)) (faults : Li → ℕ) (identity : L → Identity) (before after : List Li) (a b : Acceptor L) (events : List Event) : Type 0 where
   pub allowed : AllAllowed (core_of a) events
   pub of_use : AllOfUse (core_of a) events
   pub core : core_of b ≡ after_all (core_of a) events
   pub got : (t : ℕ) → given_at given after t ≡ given_at given before t + count_by (is_got t) events
   pub failed : (t : ℕ) → 0 < count_by (is_failed t) events → Rose (given_at faults before t) (given_at faults after t)
+  -- where a listener tells what comes, these came of it
+  pub marked : (t : ℕ) → rest_at rest before t ≡ option_map (λ marks. marks_of t events ++ marks) (rest_at rest after t)
+  -- the core counts how often one failed in a row
+  pub failures : (t : ℕ) → slice_index (core_of b).failures t ≡ in_a_row (slice_index (core_of a).failures t) (marks_of t events)
   pub sent_on : (w : ℕ) → count_put identity (parcels_of b) w ≡ count_put identity (parcels_of a) w + count_by (is_sent w) events
   pub back : (w : ℕ) → count_back identity (notes_of b) w ≡ count_back identity (notes_of a) w + count_by (is_back w) events
 
@@ -69,12 +86,8 @@ pub record TellsEnds {Li : Type 0} (ended : Li → Bool) (faults : Li → ℕ) (
       → (slice_get after t ≡ slice_get before t) × (slice_index new.failures t ≡ slice_index old.failures t) × (slice_index_or new.ended t false ≡ true)
   -- the counts of faults never fall
   pub rises : (t : ℕ) → given_at faults before t ≤ given_at faults after t
-
--- no listener gave anything, and nothing was handed on
-pub record Untouched {Li L D : Type 0} (given : Li → ℕ) (left : Li → Option (List L)) (taken : D → Option (List (Entry L))) (count served : D → ℕ) (before after : List Li) (old new : D) : Type 0 where
-  pub given_same : (t : ℕ) → given_at given after t ≡ given_at given before t
-  pub left_same : (t : ℕ) → left_at left after t ≡ left_at left before t
-  pub keeps : Keeps taken count served old new
+  -- one that answers that it ended is marked so, and not as given up
+  pub marks : (t : ℕ) → HasEnded ended after t → HasEnded ended before t ⊎ ((slice_index_or new.ended t false ≡ true) × (slice_index new.failures t ≢ retry_limit))
 
 -- a worker of which it is marked that it is ready told so
 abbrev pub IsNoted : {L : Type 0} → Acceptor L → Type 0
@@ -96,10 +109,10 @@ pub record Receives {L : Type 0} (a b : Acceptor L) (w : ℕ) : Type 0 where
   pub came : received_at (notes_of b) w ≡ received_at (notes_of a) w ++ more
 
 -- What the acceptor did from a to b, by these events, with the listeners and the holder of what is done that it was lent.
-pub record Does {Li L D : Type 0} (given : Li → ℕ) (left : Li → Option (List L)) (identity : L → Identity) (ended : Li → Bool) (faults : Li → ℕ)
+pub record Does {Li L D : Type 0} (given : Li → ℕ) (left : Li → Option (List L)) (rest : Li → Option (List Mark)) (identity : L → Identity) (ended : Li → Bool) (faults : Li → ℕ)
     (taken : D → Option (List (Entry L))) (count served : D → ℕ) (before after : List Li) (a b : Acceptor L) (old new : D) (events : List Event) : Type 0 where
   -- the core follows the events, and these tell what the listeners and the rings did
-  pub logged : Logged given faults identity before after a b events
+  pub logged : Logged given rest faults identity before after a b events
   -- what came is on a ring, waits or was handed on, once
   pub passes : Passes given left identity taken count served before after a b old new
   -- nothing is accepted before all workers are ready
@@ -115,11 +128,11 @@ pub record Does {Li L D : Type 0} (given : Li → ℕ) (left : Li → Option (Li
   pub lacks : lacks_room_of a ≡ true → lacks_room_of b ≡ true
 
 -- The same by more events than before.
-pub record Proceeds {Li L D : Type 0} (given : Li → ℕ) (left : Li → Option (List L)) (identity : L → Identity) (ended : Li → Bool) (faults : Li → ℕ)
+pub record Proceeds {Li L D : Type 0} (given : Li → ℕ) (left : Li → Option (List L)) (rest : Li → Option (List Mark)) (identity : L → Identity) (ended : Li → Bool) (faults : Li → ℕ)
     (taken : D → Option (List (Entry L))) (count served : D → ℕ) (before after : List Li) (a b : Acceptor L) (old new : D) : Type 0 where
   pub more : List Event
   pub appended : events_of b ≡ events_of a ++ more
-  pub does : Does given left identity ended faults taken count served before after a b old new more
+  pub does : Does given left rest identity ended faults taken count served before after a b old new more
 
 -- none where w refused before, and else w with those that did
 abbrev pub once_more : Bool → List ℕ → ℕ → Option (List ℕ)

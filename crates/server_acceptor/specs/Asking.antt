@@ -3,6 +3,7 @@ use Rattle.std.specs.Prelude.{◌≡◌, ℕ, ◌+◌, Bool, [], List, Option, S
 use Rattle.service_core.specs.Link.{Identity}
 use Rattle.server_core.specs.Core.{is_open}
 use Rattle.server_run.specs.Delivery.{given_at}
+use Rattle.server_run.specs.Listener.{Mark}
 use Rattle.server_run.specs.declared.entry.Entry.{Entry}
 use Rattle.server_acceptor.specs.Accepting.{AsksFrom, GaveOrSkipped, HasSettled, HasTaken, MayAsk, Proceeds, is_failed, refused}
 use Rattle.server_acceptor.specs.Acceptors.{core_of, events_of, out_of}
@@ -11,9 +12,9 @@ use Rattle.server_acceptor.specs.declared.asked.Asked.{Asked}
 use Rattle.server_acceptor.specs.declared.asked.Asked.TheVariants.{Got, NotYet, Skipped, Failed, Ended}
 
 -- it goes on from before, and asked this listener alone; no ring refused anything, and no note came
-pub record AskDoes {Li L D : Type 0} (given : Li → ℕ) (left : Li → Option (List L)) (identity : L → Identity) (ended : Li → Bool) (faults : Li → ℕ)
+pub record AskDoes {Li L D : Type 0} (given : Li → ℕ) (left : Li → Option (List L)) (rest : Li → Option (List Mark)) (identity : L → Identity) (ended : Li → Bool) (faults : Li → ℕ)
     (taken : D → Option (List (Entry L))) (count served : D → ℕ) (before after : List Li) (a b : Acceptor L) (t : ℕ) (d : D) : Type 0 where
-  pub proceeds : Proceeds given left identity ended faults taken count served before after a b d d
+  pub proceeds : Proceeds given left rest identity ended faults taken count served before after a b d d
   pub asks : AsksFrom before after a b t (t + 1)
   pub same_refused : refused (Some []) (events_of b) ≡ refused (Some []) (events_of a)
   pub told : HasTaken b

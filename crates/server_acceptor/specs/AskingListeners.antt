@@ -1,7 +1,9 @@
 -- What asking a listener once comes to.
-use Rattle.std.specs.Prelude.{◌≡◌, ◌⊎◌, ℕ, ◌+◌, ◌<◌, slice_set, ◌++◌, ◌∷◌, [], Bool, List, length, Some, None, slice_index, slice_index_or}
+use Rattle.std.specs.Prelude.{◌≡◌, ◌⊎◌, ℕ, ◌+◌, ◌<◌, slice_set, ◌++◌, ◌∷◌, [], Bool, List, length, Option, Some, None, slice_index, slice_index_or}
+use Rattle.std.specs.Option.{option_map}
 use Rattle.service_core.specs.Counts.{Rose}
 use Rattle.server_run.specs.Delivery.{HasEnded, given_at}
+use Rattle.server_run.specs.Listener.{Mark, fails, gives}
 use Rattle.server_core.specs.declared.event.Event.TheVariants.{Got as GotOf, ListenerEnded, ListenerFailed}
 use Rattle.server_acceptor.specs.declared.acceptor.Acceptor.{Acceptor}
 use Rattle.server_acceptor.specs.declared.asked.Asked.{Asked}
@@ -26,6 +28,14 @@ IsAsked given waits skips faults ended before after a b t now NotYet = (b.events
 IsAsked given waits skips faults ended before after a b t now Skipped = (b.events.items ≡ a.events.items) × (given_at given after t ≡ given_at given before t) × Rose (given_at skips before t) (given_at skips after t)
 IsAsked given waits skips faults ended before after a b t now Failed = Fails a b t now × (given_at given after t ≡ given_at given before t) × Rose (given_at faults before t) (given_at faults after t)
 IsAsked given waits skips faults ended before after a b t now Ended = (b.events.items ≡ a.events.items ++ ListenerEnded t ∷ []) × (given_at given after t ≡ given_at given before t) × HasEnded ended after t
+
+-- a connection and a failure are the first of what was still to come
+abbrev pub IsMarkedAs : Asked → Option (List Mark) → Option (List Mark) → Type 0
+IsMarkedAs Got old new = old ≡ option_map (λ marks. gives ∷ marks) new
+IsMarkedAs NotYet old new = new ≡ old
+IsMarkedAs Skipped old new = new ≡ old
+IsMarkedAs Failed old new = old ≡ option_map (λ marks. fails ∷ marks) new
+IsMarkedAs Ended old new = new ≡ old
 
 -- what asking leaves as it was
 pub record AsksOnly {L : Type 0} (a b : Acceptor L) : Type 0 where

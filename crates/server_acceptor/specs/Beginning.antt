@@ -1,5 +1,5 @@
--- An acceptor at its start.
-use Rattle.std.specs.Prelude.{◌≡◌, ℕ, List, [], length, replicate, None, false}
+-- An acceptor at its start, and the room for one.
+use Rattle.std.specs.Prelude.{◌≡◌, ℕ, ◌+◌, ◌*◌, List, [], length, replicate, vec_capacity, None, false}
 use Rattle.std.specs.declared.alloc.Global.{Global}
 use Rattle.rtrb.specs.declared.AnyItems.{AnyItems}
 use Rattle.rtrb.specs.declared.consumer.Consumer.{Consumer}
@@ -9,6 +9,15 @@ use Rattle.server_jobs.specs.declared.note.Note.{Note}
 use Rattle.server_jobs.specs.declared.parcel.Parcel.{Parcel}
 use Rattle.server_acceptor.specs.Acceptors.{core_of, events_of, failed_of, first_of, lacks_room_of, limit_of, notes_of, parcels_of, places_of, ready_of, retry_limit_of, serial_of, shutdown_timeout_of, stopped_of, waiting_of}
 use Rattle.server_acceptor.specs.declared.acceptor.Acceptor.{Acceptor}
+use Rattle.server_acceptor.specs.declared.room.Room.{Room}
+
+-- Room for so many workers and listeners: for 8 events a worker and 600 more, and with the marks and counts as they stand before anything came.
+pub record IsRoomFor (room : Room) (workers listeners : ℕ) : Type 0 where
+  pub events : (room.events.items ≡ []) × (vec_capacity room.events ≡ 8 * workers + 600)
+  pub ready : room.ready.items ≡ replicate workers false
+  pub stopped : room.stopped.items ≡ replicate workers false
+  pub places : room.places.items ≡ replicate listeners 0
+  pub failed : room.failed.items ≡ replicate listeners None
 
 -- It has these ends of the rings. Nothing has come, no worker told anything, and none got a stop.
 pub record IsNew {L : Type 0} (a : Acceptor L) (parcels : List (Producer (Parcel L) Global AnyItems)) (notes : List (Consumer (Note L) Global AnyItems)) (listeners limit retry_limit shutdown_timeout : ℕ) : Type 0 where

@@ -10,4 +10,5 @@ pub mod Logging
 pub mod Notes
 pub mod Placing
 pub mod Rings
+pub mod States
 pub mod Stopping

@@ -1,18 +1,20 @@
 //! How an acceptor is made.
-ghost use Rattle.std.specs.Prelude.{◌≡◌, ◌+◌, ◌*◌, ◌≤◌, ◌<◌, [], length, replicate, vec_capacity, IfOk, None, false};
-ghost use Rattle.server_acceptor.specs.Beginning.{IsNew};
+ghost use Rattle.std.specs.Prelude.{◌≡◌, ◌≤◌, length, IfOk};
+ghost use Rattle.server_acceptor.specs.Beginning.{IsNew, IsRoomFor};
 
 use crate::acceptor::Acceptor;
-use crate::board::Board;
+use crate::room::Room;
 use rtrb::{Consumer, Producer};
 use server_core::AcceptCore;
 use server_jobs::{Note, Parcel};
 use std::alloc::{AllocError, Global};
 
 impl<L: Drop> Acceptor<L> {
-    // An acceptor with room that was made before.
-    pub(crate) fn with_board(
-        board: Board,
+    /// An acceptor over the ends of the workers' rings, one of each for each worker, with room that was made before. A worker gets at
+    /// most `limit` connections at once, and a listener that fails `retry_limit` times with no connection between is given up. The
+    /// timeout is in seconds.
+    pub fn with_room(
+        room: Room,
         parcels: Vec<Producer<Parcel<L>>>,
         notes: Vec<Consumer<Note<L>>>,
         listeners: usize,
@@ -27,18 +29,16 @@ impl<L: Drop> Acceptor<L> {
         requires most_listeners { listeners ≤ 64 }
         requires some_connections { 1 ≤ limit }
         requires some_failures { 1 ≤ retry_limit }
-        requires events { (board.events.items ≡ []) × (vec_capacity board.events ≡ 8 * length parcels.items + 600) }
-        requires ready { (board.ready.items ≡ replicate (length parcels.items) false) × (board.stopped.items ≡ replicate (length parcels.items) false) }
-        requires places { (board.places.items ≡ replicate listeners 0) × (board.failed.items ≡ replicate listeners None) }
+        requires room { IsRoomFor room (length parcels.items) listeners }
         ensures { IsNew result parcels.items notes.items listeners limit retry_limit shutdown_timeout }
     {
-        let Board {
+        let Room {
             events,
             ready,
             stopped,
             places,
             failed,
-        } = board;
+        } = room;
         let core = AcceptCore::new(parcels.len(), listeners);
         Acceptor {
             core,
@@ -60,9 +60,7 @@ impl<L: Drop> Acceptor<L> {
         }
     }
 
-    /// An acceptor over the ends of the workers' rings, one of each for each worker, with room for 8 events a worker and 600 more. It
-    /// is refused only for want of memory. A worker gets at most `limit` connections at once, and a listener that fails
-    /// `retry_limit` times with no connection between is given up. The timeout is in seconds.
+    /// An acceptor as `with_room` makes it, with room for 8 events a worker and 600 more. It is refused only for want of memory.
     pub fn new(
         alloc: Global,
         parcels: Vec<Producer<Parcel<L>>>,
@@ -81,9 +79,9 @@ impl<L: Drop> Acceptor<L> {
         requires some_failures { 1 ≤ retry_limit }
         ensures { IfOk result (λ a. IsNew a parcels.items notes.items listeners limit retry_limit shutdown_timeout) }
     {
-        let board = Board::new(alloc, parcels.len(), listeners)?;
-        Ok(Acceptor::with_board(
-            board,
+        let room = Room::new(alloc, parcels.len(), listeners)?;
+        Ok(Acceptor::with_room(
+            room,
             parcels,
             notes,
             listeners,

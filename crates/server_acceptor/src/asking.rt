@@ -60,7 +60,7 @@ impl<L: Link> Acceptor<L> {
         requires may { MayAsk self.old }
         requires events { length (events_of self.old) + 2 ≤ 8 * workers_of self.old + 600 }
         ensures given { (t : ℕ) → slice_index_or (places_of self.new) t 0 ≤ given_at Li.given listeners.new.items t }
-        ensures does { (done : Do) → AskDoes Li.given Li.left L.identity Li.ended Li.faults Do.taken Do.count Do.served listeners.old.items listeners.new.items self.old self.new t done }
+        ensures does { (done : Do) → AskDoes Li.given Li.left Li.rest L.identity Li.ended Li.faults Do.taken Do.count Do.served listeners.old.items listeners.new.items self.old self.new t done }
         ensures counts { NeverFall Li.waits Li.skips listeners.old.items listeners.new.items t }
         ensures comes { ComesTo Li.given Li.waits Li.skips listeners.old.items listeners.new.items self.old self.new t now result }
     {
@@ -83,7 +83,7 @@ impl<L: Link> Acceptor<L> {
         requires may { MayAsk self.old }
         ensures given { (t : ℕ) → slice_index_or (places_of self.new) t 0 ≤ given_at Li.given listeners.new.items t }
         ensures spare { out_of self.new ≤ Do.spare done.new }
-        ensures proceeds { Proceeds Li.given Li.left L.identity Li.ended Li.faults Do.taken Do.count Do.served listeners.old.items listeners.new.items self.old self.new done.old done.new }
+        ensures proceeds { Proceeds Li.given Li.left Li.rest L.identity Li.ended Li.faults Do.taken Do.count Do.served listeners.old.items listeners.new.items self.old self.new done.old done.new }
         ensures asks { AsksFrom listeners.old.items listeners.new.items self.old self.new t (t + 1) }
         ensures counts { NeverFall Li.waits Li.skips listeners.old.items listeners.new.items t }
         ensures refusals { is_some (refused (Some []) (events_of self.new)) ≡ true }
@@ -131,7 +131,7 @@ impl<L: Link> Acceptor<L> {
         requires may { MayAsk self.old }
         ensures given { (t : ℕ) → slice_index_or (places_of self.new) t 0 ≤ given_at Li.given listeners.new.items t }
         ensures spare { out_of self.new ≤ Do.spare done.new }
-        ensures proceeds { Proceeds Li.given Li.left L.identity Li.ended Li.faults Do.taken Do.count Do.served listeners.old.items listeners.new.items self.old self.new done.old done.new }
+        ensures proceeds { Proceeds Li.given Li.left Li.rest L.identity Li.ended Li.faults Do.taken Do.count Do.served listeners.old.items listeners.new.items self.old self.new done.old done.new }
         ensures asks { AsksFrom listeners.old.items listeners.new.items self.old self.new t (t + 1) }
         ensures rests { IsBackedOff self.old now t → listeners.new ≡ listeners.old }
         ensures refusals { is_some (refused (Some []) (events_of self.new)) ≡ true }
@@ -170,7 +170,7 @@ impl<L: Link> Acceptor<L> {
         requires may { MayAsk self.old }
         ensures given { (t : ℕ) → slice_index_or (places_of self.new) t 0 ≤ given_at Li.given listeners.new.items t }
         ensures spare { out_of self.new ≤ Do.spare done.new }
-        ensures proceeds { Proceeds Li.given Li.left L.identity Li.ended Li.faults Do.taken Do.count Do.served listeners.old.items listeners.new.items self.old self.new done.old done.new }
+        ensures proceeds { Proceeds Li.given Li.left Li.rest L.identity Li.ended Li.faults Do.taken Do.count Do.served listeners.old.items listeners.new.items self.old self.new done.old done.new }
         ensures asks { AsksFrom listeners.old.items listeners.new.items self.old self.new from to }
         ensures rests { (t : ℕ) → IsBackedOff self.old now t → slice_get listeners.new.items t ≡ slice_get listeners.old.items t }
         ensures order { (t u : ℕ) → from ≤ t → t < u → u < to → (slice_get listeners.new.items u ≡ slice_get listeners.old.items u)
@@ -205,7 +205,7 @@ impl<L: Link> Acceptor<L> {
         requires may { MayAsk self.old }
         ensures given { (t : ℕ) → slice_index_or (places_of self.new) t 0 ≤ given_at Li.given listeners.new.items t }
         ensures spare { out_of self.new ≤ Do.spare done.new }
-        ensures proceeds { Proceeds Li.given Li.left L.identity Li.ended Li.faults Do.taken Do.count Do.served listeners.old.items listeners.new.items self.old self.new done.old done.new }
+        ensures proceeds { Proceeds Li.given Li.left Li.rest L.identity Li.ended Li.faults Do.taken Do.count Do.served listeners.old.items listeners.new.items self.old self.new done.old done.new }
         ensures first { first_of self.new ≡ first_of self.old }
         ensures once { (t : ℕ) → count_by (is_failed t) (events_of self.new) ≤ count_by (is_failed t) (events_of self.old) + 1 }
         ensures in_turn { AsksInTurn Li.given Li.waits Li.skips listeners.old.items listeners.new.items self.old self.new now }

@@ -25,7 +25,7 @@ impl<L: Link> Acceptor<L> {
         requires told { HasTaken self.old }
         requires unrefused { refused (Some []) (events_of self.old) ≡ Some [] }
         ensures spare { out_of self.new ≤ Do.spare done.new }
-        ensures proceeds { (listeners : List Li) → Proceeds Li.given Li.left L.identity Li.ended Li.faults Do.taken Do.count Do.served listeners listeners self.old self.new done.old done.new }
+        ensures proceeds { (listeners : List Li) → Proceeds Li.given Li.left Li.rest L.identity Li.ended Li.faults Do.taken Do.count Do.served listeners listeners self.old self.new done.old done.new }
         ensures places { places_of self.new ≡ places_of self.old }
         ensures none_asked { (listeners : List Li) → AsksFrom listeners listeners self.old self.new 0 0 }
         ensures refusals { is_some (refused (Some []) (events_of self.new)) ≡ true }

@@ -16,7 +16,7 @@ impl<L: Link> Acceptor<L> {
     // Sends a worker the stop that it lacks. False says that its ring has no place.
     fn send_stop<Li: Listener<Link = L>, Do: Done<L>>(&mut self, w: usize) -> bool
         requires number { w < workers_of self.old }
-        ensures proceeds { (listeners : List Li) (done : Do) → Proceeds Li.given Li.left L.identity Li.ended Li.faults Do.taken Do.count Do.served listeners listeners self.old self.new done done }
+        ensures proceeds { (listeners : List Li) (done : Do) → Proceeds Li.given Li.left Li.rest L.identity Li.ended Li.faults Do.taken Do.count Do.served listeners listeners self.old self.new done done }
         ensures only { StopsOnly self.old self.new }
         ensures got { result ≡ true → slice_index_or (stopped_of self.new) w false ≡ true }
         ensures lacks { result ≡ false → LacksStop self.new w }
@@ -36,7 +36,7 @@ impl<L: Link> Acceptor<L> {
 
     // Sends each worker the stop that it lacks. Some worker lacks it still where its ring has no place.
     fn send_stops<Li: Listener<Link = L>, Do: Done<L>>(&mut self) -> Option<usize>
-        ensures proceeds { (listeners : List Li) (done : Do) → Proceeds Li.given Li.left L.identity Li.ended Li.faults Do.taken Do.count Do.served listeners listeners self.old self.new done done }
+        ensures proceeds { (listeners : List Li) (done : Do) → Proceeds Li.given Li.left Li.rest L.identity Li.ended Li.faults Do.taken Do.count Do.served listeners listeners self.old self.new done done }
         ensures only { StopsOnly self.old self.new }
         ensures all { result ≡ None → All (λ stopped. stopped ≡ true) (stopped_of self.new) }
         ensures lacks { IfSome result (LacksStop self.new) }
@@ -65,7 +65,7 @@ impl<L: Link> Acceptor<L> {
     #[tactic(auto, using(crate::proofs::DoesSteps::proceeds_none))]
     // What the turn comes to.
     pub(crate) fn come_to<Li: Listener<Link = L>, Do: Done<L>>(&mut self) -> AcceptTurn
-        ensures proceeds { (listeners : List Li) (done : Do) → Proceeds Li.given Li.left L.identity Li.ended Li.faults Do.taken Do.count Do.served listeners listeners self.old self.new done done }
+        ensures proceeds { (listeners : List Li) (done : Do) → Proceeds Li.given Li.left Li.rest L.identity Li.ended Li.faults Do.taken Do.count Do.served listeners listeners self.old self.new done done }
         ensures only { StopsOnly self.old self.new }
         ensures going { result ≡ Going → IsOver self.new → waiting_of self.new ≡ None → sum (core_of self.new).out ≡ 0 → (w : ℕ) × LacksStop self.new w }
         ensures no_fault { (w : ℕ) → result ≡ WorkerEnded w → ⊥ }

@@ -1,14 +1,17 @@
 //! How the acceptor asks a listener.
-ghost use Rattle.std.specs.Prelude.{◌≡◌, ◌≢◌, ◌+◌, ◌*◌, ◌≤◌, ◌<◌, ◌^◌, ◌++◌, ◌∷◌, [], ℕ, List, true, None, length, vec_len, slice_index_or};
+ghost use Rattle.std.specs.Prelude.{◌≡◌, ◌≢◌, ◌+◌, ◌*◌, ◌≤◌, ◌<◌, ◌^◌, ◌++◌, ◌∷◌, [], ℕ, List, true, None, length, vec_len, slice_index, slice_index_or};
 ghost use Rattle.server_core.specs.Core.{is_open, may_take};
 ghost use Rattle.server_core.specs.declared.event.Event.TheVariants.{ListenerEnded};
-ghost use Rattle.server_run.specs.Delivery.{given_at};
+ghost use Rattle.server_run.specs.Delivery.{HasEnded, given_at, rest_at};
+ghost use Rattle.server_run.specs.Listener.{IsMarked};
+ghost use Rattle.server_run.specs.declared.listener.Accepted.TheVariants as accepted;
 ghost use Rattle.server_run.specs.declared.entry.Entry.{Entry};
 ghost use Rattle.server_acceptor.specs.Acceptors.{all_ready};
-ghost use Rattle.server_acceptor.specs.AskingListeners.{AsksOnly, Fails, IsAsked, KeepsWaiting, Leaves, TakesUp};
+ghost use Rattle.server_acceptor.specs.AskingListeners.{AsksOnly, Fails, IsAsked, IsMarkedAs, KeepsWaiting, Leaves, TakesUp};
 ghost use Rattle.server_acceptor.specs.Carrying.{Carries};
 ghost use Rattle.server_acceptor.specs.Listening.{AsksAt, Listens, NeverFall};
 ghost use Rattle.server_acceptor.specs.Logging.{Logs};
+ghost use Rattle.server_acceptor.specs.declared.asked.Asked.TheVariants as asked;
 
 use crate::acceptor::Acceptor;
 use crate::asked::Asked;
@@ -23,7 +26,9 @@ fn accept_at<Li: Listener>(listeners: &mut Vec<Li>, t: usize) -> Accepted<Li::Li
     requires inside { t < length listeners.old.items }
     ensures answer { Listens Li.given Li.left Li.waits Li.skips Li.faults Li.ended listeners.old.items listeners.new.items t result }
     ensures faults { given_at Li.faults listeners.old.items t ≤ given_at Li.faults listeners.new.items t }
+    ensures ended_only { HasEnded Li.ended listeners.new.items t → result ≡ accepted.Ended }
     ensures counts { NeverFall Li.waits Li.skips listeners.old.items listeners.new.items t }
+    ensures marked { IsMarked result (rest_at Li.rest listeners.old.items t) (rest_at Li.rest listeners.new.items t) }
 {
     listeners[t].accept()
 }
@@ -62,6 +67,7 @@ impl<L: Link> Acceptor<L> {
         ensures failed { (v : ℕ) → v ≢ t → slice_index_or self.new.failed.items v None ≡ slice_index_or self.old.failed.items v None }
         ensures asks { AsksOnly self.old self.new }
         ensures same { KeepsWaiting self.old self.new }
+        ensures counted { slice_index self.new.core.failures t ≡ slice_index self.old.core.failures t + 1 }
     {
         self.failed[t] = Some(now);
         log(&mut self.core, &mut self.events, Event::ListenerFailed(t));
@@ -96,7 +102,10 @@ impl<L: Link> Acceptor<L> {
         ensures listeners { AsksAt listeners.old.items listeners.new.items t }
         ensures given { slice_index_or self.new.places.items t 0 ≤ given_at Li.given listeners.new.items t }
         ensures faults { given_at Li.faults listeners.old.items t ≤ given_at Li.faults listeners.new.items t }
+        ensures ended_only { HasEnded Li.ended listeners.new.items t → result ≡ asked.Ended }
         ensures counts { NeverFall Li.waits Li.skips listeners.old.items listeners.new.items t }
+        ensures marked { IsMarkedAs result (rest_at Li.rest listeners.old.items t) (rest_at Li.rest listeners.new.items t) }
+        ensures counted { result ≡ asked.Failed → slice_index self.new.core.failures t ≡ slice_index self.old.core.failures t + 1 }
         ensures logs { Logs self.old.core self.new.core self.old.events.items self.new.events.items }
         ensures asks { AsksOnly self.old self.new }
         ensures failed { (v : ℕ) → v ≢ t → slice_index_or self.new.failed.items v None ≡ slice_index_or self.old.failed.items v None }

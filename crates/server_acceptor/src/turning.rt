@@ -16,13 +16,6 @@ use server_run::{Done, Listener};
 use service_core::Link;
 
 impl<L: Link> Acceptor<L> {
-    // Whether every worker told that its services stand.
-    fn all_ready(&self) -> bool
-        ensures { result ≡ all_ready self.now }
-    {
-        self.ready.iter().all(|ready| *ready)
-    }
-
     // Whether all services stand, and no room for an entry was refused.
     fn may_accept(&self) -> bool
         ensures yes { result ≡ true → (all_ready self.now ≡ true) × (lacks_room_of self.now ≡ false) }
@@ -47,7 +40,7 @@ impl<L: Link> Acceptor<L> {
         requires begins { events_of self.old ≡ [] }
         ensures given { (t : ℕ) → slice_index_or (places_of self.new) t 0 ≤ given_at Li.given listeners.new.items t }
         ensures spare { out_of self.new ≤ Do.spare done.new }
-        ensures proceeds { Proceeds Li.given Li.left L.identity Li.ended Li.faults Do.taken Do.count Do.served listeners.old.items listeners.new.items self.old self.new done.old done.new }
+        ensures proceeds { Proceeds Li.given Li.left Li.rest L.identity Li.ended Li.faults Do.taken Do.count Do.served listeners.old.items listeners.new.items self.old self.new done.old done.new }
         ensures first { first_of self.new ≡ first_of self.old }
         ensures once { OnceEach (events_of self.new) }
         ensures in_turn { AsksInTurn Li.given Li.waits Li.skips listeners.old.items listeners.new.items self.old self.new now }
@@ -99,7 +92,7 @@ impl<L: Link> Acceptor<L> {
 
         // Its events tell what it did with the listeners, the rings and `done`: each connection that came is on a ring, waits or was
         // handed on, once.
-        ensures does { Does Li.given Li.left L.identity Li.ended Li.faults Do.taken Do.count Do.served listeners.old.items listeners.new.items self.old self.new done.old done.new (events_of self.new) }
+        ensures does { Does Li.given Li.left Li.rest L.identity Li.ended Li.faults Do.taken Do.count Do.served listeners.old.items listeners.new.items self.old self.new done.old done.new (events_of self.new) }
         ensures once { OnceEach (events_of self.new) }
 
         // Each listener is asked in its turn, and another one first in the next turn.

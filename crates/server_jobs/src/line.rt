@@ -1,5 +1,5 @@
-ghost use Rattle.std.specs.Prelude.{◌≡◌};
-ghost use Rattle.rtrb.specs.Ring.{received, sent};
+ghost use Rattle.std.specs.Prelude.{◌≡◌, ◌++◌};
+ghost use Rattle.rtrb.specs.Ring.{known_items, received, sent};
 ghost use Rattle.server_jobs.specs.Joins.{EachOnce, Hands, IsLine};
 
 use crate::handed::Handed;
@@ -34,7 +34,7 @@ pub struct Joined<L, F, D> {
 }
 
 impl<L: Link + Send, J: Job<Out: Handover<L>>> Line<L, J> {
-    /// Waits for the end of the job's thread. Each connection that was put on the ring to it came back, is on its way back, is
+    /// Waits for the end of the job's thread. What was put on each ring is what was taken from it, and what is left in it. Each connection that was put on the ring to it came back, is on its way back, is
     /// owed or handed over, or is left in that ring, once: by its numbers, and its link's name, peer and held bytes.
     pub fn join<Th: Threads>(
         self,
@@ -44,6 +44,8 @@ impl<L: Link + Send, J: Job<Out: Handover<L>>> Line<L, J> {
         ensures sent { sent result.parcels ≡ sent self.parcels }
         ensures received { received result.notes ≡ received self.notes }
         ensures handed { Hands J.promise J.Out.handed self result }
+        ensures to_it { received result.handed.parcels ++ known_items result.handed.parcels ≡ sent result.parcels }
+        ensures from_it { received result.notes ++ known_items result.notes ≡ sent result.handed.notes }
         ensures once { EachOnce L.identity result }
     {
         let Line {

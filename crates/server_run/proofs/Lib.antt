@@ -1,7 +1,3 @@
-pub mod Deliver
-pub mod Lists
-pub mod Progress
-pub mod Reports
-pub mod Standing
 pub mod Fails
+pub mod Standing
 pub mod Steps

@@ -1,14 +1,13 @@
 -- What a service of a token is known to do with a link.
-use Rattle.std.proofs.Common.{◌≡◌, Ok, inl, inr}
+use Rattle.std.proofs.Common.{◌≡◌, inl, inr}
 use Rattle.service_core.specs.Link.{Identity}
 use Rattle.service_core.specs.Making.{LiesWithin}
 use Rattle.service_core.specs.Meaning.{Readiness}
 use Rattle.service_core.specs.declared.ended.Ended.{Ended}
 use Rattle.service_core.specs.declared.service.Service.{Ghosts as ServiceOf}
 use Rattle.service_core.specs.declared.service_factory.ServiceFactory.{Ghosts as FactoryOf}
-use Rattle.server_run.specs.Creating.{Creates, Finishes, Stands}
+use Rattle.server_run.specs.Creating.{Creates, Stands}
 use Rattle.server_run.specs.Delivery.{ComesBack}
-use Rattle.server_run.specs.declared.drive.Finished.{Finished}
 use Rattle.server_run.specs.declared.outcome.Outcome.{Outcome}
 
 -- a service that the factory of a token made is one of the token
@@ -24,16 +23,6 @@ stands_made fg sg may_stand may_serve may_leave may_ready may_init may_make fact
   leaves = λ link future begun. creates.leaves link future (lies.futures link future begun);
   readies = λ answer given. creates.readies answer (lies.readiness answer given);
 }
-
--- what comes back from a service of a token
-pub comes_back : {S L E Fut : Type 0} (g : ServiceOf S L (Ended L) E Fut) (may_stand : Fut → L → Type 0)
-    (may_serve : L → Ended L → Type 0) (may_leave : L → L → Type 0) (may_ready : Readiness E → Type 0) (service : S) (link : L) (finished : Finished L)
-    → Stands g may_stand may_serve may_leave may_ready service → Finishes g may_stand service link finished
-    → ComesBack may_serve may_leave link finished.link finished.outcome
-comes_back g may_stand may_serve may_leave may_ready service link finished stands (inl served) =
-    inl (served.0, served.1, stands.serves link (Ok (record { link = finished.link; how = served.0 })) served.2)
-comes_back g may_stand may_serve may_leave may_ready service link finished stands (inr left) =
-    inr (left.0, stands.leaves link left.1.future left.1.begun finished.link left.1.stands)
 
 -- it is the link that was given
 pub same_link : {L : Type 0} (identity : L → Identity) (may_serve : L → Ended L → Type 0) (may_leave : L → L → Type 0) (link back : L) (outcome : Outcome)

@@ -4,10 +4,8 @@ use Rattle.service_core.specs.Meaning.{Readiness, Within}
 use Rattle.service_core.specs.declared.ended.Ended.{Ended}
 use Rattle.service_core.specs.declared.service.Service.{Ghosts as ServiceOf}
 use Rattle.service_core.specs.declared.service_factory.ServiceFactory.{Ghosts as FactoryOf}
-use Rattle.server_run.specs.declared.drive.Finished.{Finished}
 use Rattle.server_run.specs.declared.serve_error.ServeError.{ServeError}
-use Rattle.server_run.specs.declared.serve_error.ServeError.TheVariants.{NoListener, Startup, Memory}
-use Rattle.server_run.specs.Delivery.{ComesBack}
+use Rattle.server_run.specs.declared.serve_error.ServeError.TheVariants.{NoListener, Spawn, Startup, Memory}
 
 -- the call ends the connection, and never errs
 abbrev pub OnlyEnds : {L E : Type 0} → (Ended L → Type 0) → Result (Ended L) E → Type 0
@@ -33,19 +31,18 @@ pub record Stands {S L E Fut : Type 0} (g : ServiceOf S L (Ended L) E Fut) (may_
   pub leaves : (link : L) (future : Fut) → g.may_begin service link future → Within (may_stand future) (may_leave link)
   pub readies : Within (g.may_ready service) may_ready
 
--- the link is one that a future which the service may begin with the link as it was given may hand back
-pub record HandsBack {S L E Fut : Type 0} (g : ServiceOf S L (Ended L) E Fut) (may_stand : Fut → L → Type 0) (service : S) (link back : L) : Type 0 where
-  pub future : Fut
-  pub begun : g.may_begin service link future
-  pub stands : may_stand future back
+-- Each relation of a copy of a factory lies within the one of its original.
+pub record HasMeaningOf {F L E I : Type 0} (may_serve : F → ℕ → L → Ended L → Type 0) (may_leave : F → ℕ → L → L → Type 0)
+    (may_ready : F → ℕ → Readiness E → Type 0) (may_init : F → ℕ → I → Type 0) (may_make : F → ℕ → Type 0) (original copy : F) : Type 0 where
+  pub serves : (token : ℕ) (link : L) → Within (may_serve copy token link) (may_serve original token link)
+  pub leaves : (token : ℕ) (link : L) → Within (may_leave copy token link) (may_leave original token link)
+  pub readies : (token : ℕ) → Within (may_ready copy token) (may_ready original token)
+  pub inits : (token : ℕ) → Within (may_init copy token) (may_init original token)
+  pub makes : (token : ℕ) → may_make copy token → may_make original token
 
--- the link as the service ended it, or as its future handed it back
-abbrev pub Finishes : {S L E Fut : Type 0} → ServiceOf S L (Ended L) E Fut → (Fut → L → Type 0) → S → L → Finished L → Type 0
-Finishes g may_stand service link finished =
-    ComesBack (λ given ended. g.may service given (Ok ended)) (HandsBack g may_stand service) link finished.link finished.outcome
-
--- an error of a factory names one of so many workers and of so many listeners, and is one that the factory of its token may answer
+-- an error names one of so many workers and of so many listeners, and a factory's is one that the factory of its token may answer
 abbrev pub IsStartup : {I : Type 0} → ℕ → ℕ → (ℕ → I → Type 0) → ServeError I → Type 0
 IsStartup workers listeners may_init NoListener = ⊤
+IsStartup workers listeners may_init (Spawn worker) = worker < workers
 IsStartup workers listeners may_init (Startup worker token error) = (worker < workers) × (token < listeners) × may_init token error
 IsStartup workers listeners may_init Memory = ⊤

@@ -8,6 +8,7 @@ use Rattle.service_core.specs.declared.ended.How.{How}
 use Rattle.server_run.specs.declared.entry.Entry.{Entry}
 use Rattle.server_run.specs.declared.outcome.Outcome.{Outcome}
 use Rattle.server_run.specs.declared.outcome.Outcome.TheVariants.{Memory}
+use Rattle.server_run.specs.Listener.{Mark}
 use Rattle.server_run.specs.Outcome.{outcome_of}
 
 -- 1 for a number below n
@@ -28,6 +29,9 @@ given_at given listeners token = option_map_or given (slice_get listeners token)
 
 abbrev pub left_at : {Li L : Type 0} → (Li → Option (List L)) → List Li → ℕ → Option (List L)
 left_at left listeners token = option_and_then left (slice_get listeners token)
+
+abbrev pub rest_at : {Li : Type 0} → (Li → Option (List Mark)) → List Li → ℕ → Option (List Mark)
+rest_at rest listeners token = option_and_then rest (slice_get listeners token)
 
 -- how many links this listener gave
 abbrev pub rise : {Li : Type 0} → (Li → ℕ) → List Li → List Li → ℕ → ℕ

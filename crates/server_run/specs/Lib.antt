@@ -5,4 +5,5 @@ pub mod Listener
 pub mod Memory
 pub mod Outcome
 pub mod Report
+pub mod Serving
 pub mod Steps

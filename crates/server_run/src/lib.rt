@@ -1,28 +1,21 @@
-//! The server: what it asks of the outside as traits, the accept loop, and objects in memory that meet the traits.
+//! What a server asks of the outside as traits, what it tells of a run, and objects in memory that meet the traits.
 #![tactic(auto)]
 
-mod accept;
-mod builder;
 mod done;
-mod drive;
 mod entry;
 mod host;
 mod keep_all;
 mod listener;
 mod listener_step;
-mod making;
 mod memory_link;
 mod memory_listener;
-mod names;
 mod outcome;
 mod read_step;
 mod report;
 mod serve_error;
-mod server;
 mod server_service_factory;
 mod write_step;
 
-pub use builder::{ServerBuilder, new};
 pub use done::Done;
 pub use entry::Entry;
 pub use host::Host;
@@ -35,6 +28,5 @@ pub use outcome::Outcome;
 pub use read_step::ReadStep;
 pub use report::{End, ListenerState, Report};
 pub use serve_error::ServeError;
-pub use server::Server;
 pub use server_service_factory::ServerServiceFactory;
 pub use write_step::WriteStep;

@@ -1,5 +1,5 @@
-ghost use Rattle.std.specs.Prelude.{◌≡◌, ◌+◌, ◌<◌, ◌^◌, ◌↔◌, ℕ, Bool, List, [], Option, IsTrue, IfSome};
-ghost use Rattle.server_run.specs.Listener.{OnGot, IsTakenFrom, Rises};
+ghost use Rattle.std.specs.Prelude.{◌≡◌, ◌+◌, ◌<◌, ◌^◌, ◌↔◌, ℕ, Bool, List, [], Option, None, IsTrue, IfSome};
+ghost use Rattle.server_run.specs.Listener.{OnGot, IsMarked, IsTakenFrom, Mark, Rises};
 ghost use Rattle.server_run.specs.declared.listener.Accepted.TheVariants.{NotYet, Skipped, Failed, Ended};
 
 use service_core::Link;
@@ -27,6 +27,9 @@ pub trait Listener: Drop {
     // The links still to come, in order, where the listener tells them.
     ghost left: { Self → Option (List Self.Link) };
 
+    // The connections and the failures still to come, in order, where the listener tells them.
+    ghost rest: { Self → Option (List Mark) } = { λ _. None };
+
     // How many links it has given.
     ghost given: { Self → ℕ };
 
@@ -47,6 +50,7 @@ pub trait Listener: Drop {
         ensures link { OnGot result
             (λ link. IsTakenFrom (left self.old) link (left self.new) × (given self.new ≡ given self.old + 1))
             ((left self.new ≡ left self.old) × (given self.new ≡ given self.old)) }
+        ensures marked { IsMarked result (rest self.old) (rest self.new) }
         ensures small { given self.new < 2 ^ 48 }
         ensures ended { IsTrue (ended self.new) ↔ (result ≡ Ended) }
         ensures for_ever { IsTrue (ended self.old) → result ≡ Ended }

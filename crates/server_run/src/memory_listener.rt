@@ -1,6 +1,6 @@
 ghost use Rattle.std.specs.Prelude.{◌≡◌, ◌+◌, ◌^◌, ◌<◌, [], Some, true, false, length};
 ghost use Rattle.std.proofs.Common.{ap, rules};
-ghost use Rattle.server_run.specs.Memory.{links};
+ghost use Rattle.server_run.specs.Memory.{links, marks};
 
 use crate::{Accepted, Listener, ListenerStep, MemoryLink};
 use std::alloc::Global;
@@ -42,6 +42,8 @@ impl Listener for MemoryListener {
     type Link = MemoryLink;
 
     ghost left = { λ listener. Some (links listener.steps.items) };
+
+    ghost rest = { λ listener. Some (marks listener.steps.items) };
 
     ghost given = { λ listener. listener.given };
 

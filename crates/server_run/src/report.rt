@@ -1,9 +1,7 @@
-ghost use Rattle.std.specs.Prelude.{◌≡◌, ◌↔◌, ◌<◌, ◌≤◌, ℕ, length, vec_len, slice_get, Some};
-
 /// How a run of the server ended.
 #[derive(Clone, Copy, Debug, PartialEq, Eq)]
 pub enum End {
-    /// Every listener has ended, and every connection was handed on.
+    /// No listener gives any more connections, and every connection was handed on.
     Drained,
     /// Memory ran out, and nothing more was accepted.
     Memory,
@@ -14,6 +12,11 @@ pub enum End {
 pub enum ListenerState {
     /// It gives no more connections.
     Ended,
+    /// It failed so often in a row that it was given up.
+    Faulted {
+        /// How often it failed with no connection between: the retry limit.
+        failures: u64,
+    },
     /// It may give more.
     Open,
 }
@@ -25,27 +28,4 @@ pub struct Report {
     pub end: End,
     /// One state for each listener, at the place that is its token.
     pub listeners: Vec<ListenerState>,
-}
-
-impl Report {
-    // The report where this many listeners ended, and the others are open.
-    pub(crate) fn of(states: Vec<ListenerState>, ended: usize) -> Report
-        requires open { (token : ℕ) → token < vec_len states → slice_get states.items token ≡ Some ListenerState.Open }
-        requires within { ended ≤ vec_len states }
-        ensures as_many { length result.listeners.items ≡ length states.items }
-        ensures ended { (token : ℕ) → token < ended → slice_get result.listeners.items token ≡ Some ListenerState.Ended }
-        ensures others { (token : ℕ) → ended ≤ token → token < vec_len states → slice_get result.listeners.items token ≡ Some ListenerState.Open }
-        ensures drained { (result.end ≡ End.Drained) ↔ (ended ≡ vec_len states) }
-    {
-        let mut listeners = states;
-        for token in 0..ended {
-            listeners[token] = ListenerState::Ended;
-        }
-        let end = if ended == listeners.len() {
-            End::Drained
-        } else {
-            End::Memory
-        };
-        Report { end, listeners }
-    }
 }

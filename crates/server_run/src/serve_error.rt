@@ -8,6 +8,11 @@ use std::alloc::AllocError;
 pub enum ServeError<I> {
     /// There is no listener to serve.
     NoListener,
+    /// The thread of this worker could not be started.
+    Spawn {
+        /// The number of the worker, from 0.
+        worker: usize,
+    },
     /// The factory of this token refused its service on this worker.
     Startup {
         /// The number of the worker, from 0.

@@ -3,6 +3,7 @@ pub mod AdmitSteps
 pub mod AskSteps
 pub mod BeginSteps
 pub mod LeaveSteps
+pub mod Lists
 pub mod MakeSteps
 pub mod Places
 pub mod PollSteps

@@ -3,7 +3,7 @@ use Rattle.std.proofs.Common.{◌≡◌, ◌≢◌, ◌<◌, ◌≤◌, ℕ, ◌
 use Rattle.std.proofs.Math.ListN.{length-set}
 use Rattle.std.proofs.lemmas.Bool.{cases_eq}
 use Rattle.std.proofs.lemmas.Option.{slice_get_read}
-use Rattle.server_run.proofs.Lists.{slice_get-set_same, slice_get-set_other}
+use Rattle.server_worker.proofs.Lists.{slice_get-set_same, slice_get-set_other}
 use Rattle.server_worker.specs.Standing.{AtSlot, IsMade, MadeOrWaits}
 use Rattle.server_worker.specs.declared.slot.Slot.{Slot}
 use Rattle.server_worker.specs.declared.slot.Slot.TheVariants.{Made}

@@ -4,7 +4,6 @@
 mod departure;
 mod giving_up;
 mod laws;
-mod names;
 mod worker_job;
 mod working;
 

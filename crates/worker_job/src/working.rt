@@ -7,9 +7,8 @@ ghost use Rattle.worker_job.specs.Working.{CanTurn, Departs, IsMadeOf, Says, Tur
 ghost use Rattle.worker_job.specs.declared.worker_job.WorkerJob.{WorkerJob};
 
 use crate::departure::Departure;
-use crate::names::Names;
-use futures::task::{Context, Doorbell, Queue};
-use server_jobs::{Handed, Waiter};
+use futures::task::Context;
+use server_jobs::{Handed, Waiter, queue_of_one};
 use server_run::ServerServiceFactory;
 use server_worker::{Turned, Worker};
 use service_core::{Link, Service, ServiceFactory};
@@ -61,17 +60,6 @@ where
         }
     }
     unreachable!()
-}
-
-// A queue whose one task is the worker.
-fn queue_of_one(alloc: Global, number: usize) -> Option<Queue> {
-    let names = Names {
-        alloc,
-        number: number as u64,
-    };
-    let queue = Queue::new(&names, Doorbell::spinning()).ok()?;
-    queue.add().ok()?.schedule();
-    Some(queue)
 }
 
 // The end of a worker that has no memory to begin with.

@@ -9,7 +9,7 @@ returns-in_default-clause-in_turn g c = in_turn_halted g.Li.Listener.given g.Li.
     refl (omega (arith, c.len.ensures, c.requires.as_many, c.ask_from.ensures.proceeds.does.listeners))
 
 pub returns-in-Settled-clause-proceeds : goal.returns-in-Settled-clause-proceeds
-returns-in-Settled-clause-proceeds g c = proceeds_trans g.Li.Listener.given g.Li.Listener.left g.L.Link.identity g.Li.Listener.ended g.Li.Listener.faults g.Do.Done.taken g.Do.Done.count g.Do.Done.served
+returns-in-Settled-clause-proceeds g c = proceeds_trans g.Li.Listener.given g.Li.Listener.left g.Li.Listener.rest g.L.Link.identity g.Li.Listener.ended g.Li.Listener.faults g.Do.Done.taken g.Do.Done.count g.Do.Done.served
     c.args.listeners.now.items c.ask_from.new.listeners.items c.ask_from-in-Settled.new.listeners.items c.args.self.now c.ask_from.new.self c.ask_from-in-Settled.new.self c.args.done.now c.ask_from.new.done c.ask_from-in-Settled.new.done c.ask_from.ensures.proceeds c.ask_from-in-Settled.ensures.proceeds
 
 pub returns-in-Settled-clause-once : goal.returns-in-Settled-clause-once
@@ -47,6 +47,6 @@ pub returns-in-Settled-clause-ended : goal.returns-in-Settled-clause-ended
 returns-in-Settled-clause-ended g c w is =
     let ends = c.ask_from-in-Settled.ensures.ended w is in (
       ends.0,
-      fault_after g.Li.Listener.given g.Li.Listener.left g.L.Link.identity g.Li.Listener.ended g.Li.Listener.faults g.Do.Done.taken g.Do.Done.count g.Do.Done.served
+      fault_after g.Li.Listener.given g.Li.Listener.left g.Li.Listener.rest g.L.Link.identity g.Li.Listener.ended g.Li.Listener.faults g.Do.Done.taken g.Do.Done.count g.Do.Done.served
           c.args.listeners.now.items c.ask_from.new.listeners.items c.ask_from-in-Settled.new.listeners.items c.args.self.now c.ask_from.new.self c.ask_from-in-Settled.new.self c.args.done.now c.ask_from.new.done c.ask_from-in-Settled.new.done w c.ask_from.ensures.proceeds ends.1,
     )

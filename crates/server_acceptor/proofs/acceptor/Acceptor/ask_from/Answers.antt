@@ -5,7 +5,7 @@ use Rattle.server_acceptor.proofs.acceptor.Acceptor.ask_from.Goals as goal
 
 pub loop-t-init : goal.loop-t-init
 loop-t-init g c = record {
-  proceeds = proceeds_none g.Li.Listener.given g.Li.Listener.left g.L.Link.identity g.Li.Listener.ended g.Li.Listener.faults g.Do.Done.taken g.Do.Done.count g.Do.Done.served _ c.args.self.now c.args.done.now (g.met.Do.Done.small c.args.done.now);
+  proceeds = proceeds_none g.Li.Listener.given g.Li.Listener.left g.Li.Listener.rest g.L.Link.identity g.Li.Listener.ended g.Li.Listener.faults g.Do.Done.taken g.Do.Done.count g.Do.Done.served _ c.args.self.now c.args.done.now (g.met.Do.Done.small c.args.done.now);
   asked = to_none g.Li.Listener.given g.Li.Listener.waits g.Li.Listener.skips c.args.now _ c.args.self.now c.args.from;
   above = omega arith;
   below = inr refl;
@@ -18,7 +18,7 @@ pub loop-t-preserved : goal.loop-t-preserved
 loop-t-preserved g c =
     let settles = c.in-Settled.ensures.settled refl in
     record {
-      proceeds = proceeds_trans g.Li.Listener.given g.Li.Listener.left g.L.Link.identity g.Li.Listener.ended g.Li.Listener.faults g.Do.Done.taken g.Do.Done.count g.Do.Done.served
+      proceeds = proceeds_trans g.Li.Listener.given g.Li.Listener.left g.Li.Listener.rest g.L.Link.identity g.Li.Listener.ended g.Li.Listener.faults g.Do.Done.taken g.Do.Done.count g.Do.Done.served
           c.args.listeners.now.items c.loop-t.listeners.items c.ask_out.new.listeners.items c.args.self.now c.loop-t.self c.ask_out.new.self c.args.done.now c.loop-t.done c.ask_out.new.done c.loop-t.invariant.proceeds c.ask_out.ensures.proceeds;
       asked = to_more g.Li.Listener.given g.Li.Listener.waits g.Li.Listener.skips c.args.now c.args.listeners.now.items c.args.self.now c.args.from c.loop-t.listeners.items c.ask_out.new.listeners.items c.loop-t.self c.ask_out.new.self c.loop-t.t c.loop-t.invariant.above c.loop-t.invariant.asked c.ask_out.ensures.asks
           (λ backed. ap (λ v. v.items) (c.ask_out.ensures.rests backed)) settles.1;
@@ -30,7 +30,7 @@ loop-t-preserved g c =
     }
 
 pub returns-in_default-clause-proceeds : goal.returns-in_default-clause-proceeds
-returns-in_default-clause-proceeds g c = proceeds_trans g.Li.Listener.given g.Li.Listener.left g.L.Link.identity g.Li.Listener.ended g.Li.Listener.faults g.Do.Done.taken g.Do.Done.count g.Do.Done.served
+returns-in_default-clause-proceeds g c = proceeds_trans g.Li.Listener.given g.Li.Listener.left g.Li.Listener.rest g.L.Link.identity g.Li.Listener.ended g.Li.Listener.faults g.Do.Done.taken g.Do.Done.count g.Do.Done.served
     c.args.listeners.now.items c.loop-t.listeners.items c.ask_out.new.listeners.items c.args.self.now c.loop-t.self c.ask_out.new.self c.args.done.now c.loop-t.done c.ask_out.new.done c.loop-t.invariant.proceeds c.ask_out.ensures.proceeds
 
 pub returns-in_default-clause-asks : goal.returns-in_default-clause-asks
@@ -49,7 +49,7 @@ pub returns-in_default-clause-ended : goal.returns-in_default-clause-ended
 returns-in_default-clause-ended g c w is =
     let ends = c.ask_out.ensures.ended w is in (
       ends.0,
-      fault_after g.Li.Listener.given g.Li.Listener.left g.L.Link.identity g.Li.Listener.ended g.Li.Listener.faults g.Do.Done.taken g.Do.Done.count g.Do.Done.served
+      fault_after g.Li.Listener.given g.Li.Listener.left g.Li.Listener.rest g.L.Link.identity g.Li.Listener.ended g.Li.Listener.faults g.Do.Done.taken g.Do.Done.count g.Do.Done.served
           c.args.listeners.now.items c.loop-t.listeners.items c.ask_out.new.listeners.items c.args.self.now c.loop-t.self c.ask_out.new.self c.args.done.now c.loop-t.done c.ask_out.new.done w c.loop-t.invariant.proceeds ends.1,
     )
 

@@ -8,7 +8,7 @@ use Rattle.server_acceptor.proofs.acceptor.Acceptor.ask_from.Given as goal
 
 abbrev pub invariant-loop-t : goal.invariant-loop-t
 invariant-loop-t g l = record {
-  proceeds : Proceeds g.Li.Listener.given g.Li.Listener.left g.L.Link.identity g.Li.Listener.ended g.Li.Listener.faults g.Do.Done.taken g.Do.Done.count g.Do.Done.served
+  proceeds : Proceeds g.Li.Listener.given g.Li.Listener.left g.Li.Listener.rest g.L.Link.identity g.Li.Listener.ended g.Li.Listener.faults g.Do.Done.taken g.Do.Done.count g.Do.Done.served
       l.fn.listeners.items l.listeners.items l.fn.self l.self l.fn.done l.done;
   asked : AskedTo g.Li.Listener.given g.Li.Listener.waits g.Li.Listener.skips l.now l.fn.listeners.items l.listeners.items l.fn.self l.self l.from l.t;
   above : l.from ≤ l.t;

@@ -8,7 +8,7 @@ use Rattle.server_acceptor.proofs.acceptor.Acceptor.ask_out.Given as goal
 
 abbrev pub invariant-loop-k : goal.invariant-loop-k
 invariant-loop-k g l = record {
-  proceeds : Proceeds g.Li.Listener.given g.Li.Listener.left g.L.Link.identity g.Li.Listener.ended g.Li.Listener.faults g.Do.Done.taken g.Do.Done.count g.Do.Done.served
+  proceeds : Proceeds g.Li.Listener.given g.Li.Listener.left g.Li.Listener.rest g.L.Link.identity g.Li.Listener.ended g.Li.Listener.faults g.Do.Done.taken g.Do.Done.count g.Do.Done.served
       l.fn.listeners.items l.listeners.items l.fn.self l.self l.fn.done l.done;
   asked : AskedSome g.Li.Listener.given g.Li.Listener.waits g.Li.Listener.skips l.fn.listeners.items l.listeners.items l.fn.self l.self l.t l.k;
   given : (v : ℕ) → slice_index_or (places_of l.self) v 0 ≤ given_at g.Li.Listener.given l.listeners.items v;

@@ -2,7 +2,7 @@ use Rattle.std.proofs.Common.{◌<◌, [], refl, sym, ◌∙◌, arith, length}
 use Rattle.std.proofs.lemmas.List.{append-nil}
 use Rattle.std.proofs.lemmas.List.Elements.{All-nil}
 use Rattle.rtrb.specs.Ring.{received}
-use Rattle.server_run.proofs.Progress.{adds_none}
+use Rattle.server_acceptor.proofs.Giving.{adds_none}
 use Rattle.server_jobs.specs.declared.note.Note.TheVariants.{Ready, Back}
 use Rattle.server_acceptor.proofs.LogSteps.{logs_none}
 use Rattle.server_acceptor.proofs.NoteSteps.{looked_balance, looked_came, looked_kept, looked_rings}

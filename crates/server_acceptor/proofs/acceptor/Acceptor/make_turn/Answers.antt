@@ -9,7 +9,7 @@ use Rattle.server_acceptor.proofs.TurnSteps.{in_turn_from, in_turn_none, is_some
 use Rattle.server_acceptor.proofs.acceptor.Acceptor.make_turn.Goals as goal
 
 pub returns-in-Some-clause-proceeds : goal.returns-in-Some-clause-proceeds
-returns-in-Some-clause-proceeds g c = hands_proceeds _ _ _ _ _ _ _ _ _ _ _ _ _ (g.met.Do.Done.small c.args.done.now) c.take_notes.ensures.hands
+returns-in-Some-clause-proceeds g c = hands_proceeds _ _ _ _ _ _ _ _ _ _ _ _ _ _ (g.met.Do.Done.small c.args.done.now) c.take_notes.ensures.hands
 
 pub returns-in-Some-clause-once : goal.returns-in-Some-clause-once
 returns-in-Some-clause-once g c =
@@ -18,8 +18,8 @@ returns-in-Some-clause-once g c =
 
 pub returns-in_default-place_one-clause-proceeds : goal.returns-in_default-place_one-clause-proceeds
 returns-in_default-place_one-clause-proceeds g c =
-    proceeds_trans _ _ _ _ _ _ _ _ c.args.listeners.now.items c.args.listeners.now.items c.args.listeners.now.items _ _ _ _ _ _
-    (hands_proceeds _ _ _ _ _ _ _ _ _ _ _ _ _ (g.met.Do.Done.small c.args.done.now) c.take_notes.ensures.hands) (c.place_one.ensures.proceeds c.args.listeners.now.items)
+    proceeds_trans _ _ _ _ _ _ _ _ _ c.args.listeners.now.items c.args.listeners.now.items c.args.listeners.now.items _ _ _ _ _ _
+    (hands_proceeds _ _ _ _ _ _ _ _ _ _ _ _ _ _ (g.met.Do.Done.small c.args.done.now) c.take_notes.ensures.hands) (c.place_one.ensures.proceeds c.args.listeners.now.items)
 
 pub returns-in_default-place_one-clause-first : goal.returns-in_default-place_one-clause-first
 returns-in_default-place_one-clause-first g c = (c.place_one.ensures.none_asked c.args.listeners.now.items).first ∙ c.take_notes.ensures.hands.first
@@ -38,8 +38,8 @@ returns-in_default-place_one-clause-ended g c w is =
 
 pub returns-then-not-may_accept-clause-proceeds : goal.returns-then-not-may_accept-clause-proceeds
 returns-then-not-may_accept-clause-proceeds g c =
-    proceeds_trans _ _ _ _ _ _ _ _ c.args.listeners.now.items c.args.listeners.now.items c.args.listeners.now.items _ _ _ _ _ _
-    (hands_proceeds _ _ _ _ _ _ _ _ _ _ _ _ _ (g.met.Do.Done.small c.args.done.now) c.take_notes.ensures.hands) (c.place_one.ensures.proceeds c.args.listeners.now.items)
+    proceeds_trans _ _ _ _ _ _ _ _ _ c.args.listeners.now.items c.args.listeners.now.items c.args.listeners.now.items _ _ _ _ _ _
+    (hands_proceeds _ _ _ _ _ _ _ _ _ _ _ _ _ _ (g.met.Do.Done.small c.args.done.now) c.take_notes.ensures.hands) (c.place_one.ensures.proceeds c.args.listeners.now.items)
 
 pub returns-then-not-may_accept-clause-first : goal.returns-then-not-may_accept-clause-first
 returns-then-not-may_accept-clause-first g c = (c.place_one.ensures.none_asked c.args.listeners.now.items).first ∙ c.take_notes.ensures.hands.first
@@ -50,9 +50,9 @@ returns-then-not-may_accept-clause-once g c =
 
 pub returns-clause-proceeds : goal.returns-clause-proceeds
 returns-clause-proceeds g c =
-    proceeds_trans _ _ _ _ _ _ _ _ c.args.listeners.now.items c.args.listeners.now.items c.ask_all.new.listeners.items _ _ _ _ _ _
-    (proceeds_trans _ _ _ _ _ _ _ _ c.args.listeners.now.items c.args.listeners.now.items c.args.listeners.now.items _ _ _ _ _ _
-    (hands_proceeds _ _ _ _ _ _ _ _ _ _ _ _ _ (g.met.Do.Done.small c.args.done.now) c.take_notes.ensures.hands) (c.place_one.ensures.proceeds c.args.listeners.now.items))
+    proceeds_trans _ _ _ _ _ _ _ _ _ c.args.listeners.now.items c.args.listeners.now.items c.ask_all.new.listeners.items _ _ _ _ _ _
+    (proceeds_trans _ _ _ _ _ _ _ _ _ c.args.listeners.now.items c.args.listeners.now.items c.args.listeners.now.items _ _ _ _ _ _
+    (hands_proceeds _ _ _ _ _ _ _ _ _ _ _ _ _ _ (g.met.Do.Done.small c.args.done.now) c.take_notes.ensures.hands) (c.place_one.ensures.proceeds c.args.listeners.now.items))
     c.ask_all.ensures.proceeds
 
 pub returns-clause-first : goal.returns-clause-first

@@ -7,13 +7,13 @@ use Rattle.server_acceptor.proofs.PlacedDoes.{asked_none, has_taken_sent, has_ta
 use Rattle.server_acceptor.proofs.acceptor.Acceptor.place_one.Goals as goal
 
 pub returns-then-is_short-clause-proceeds : goal.returns-then-is_short-clause-proceeds
-returns-then-is_short-clause-proceeds g c ls = proceeds_none g.Li.Listener.given g.Li.Listener.left g.L.Link.identity g.Li.Listener.ended g.Li.Listener.faults g.Do.Done.taken g.Do.Done.count g.Do.Done.served ls c.args.self.now c.args.done.now (g.met.Do.Done.small c.args.done.now)
+returns-then-is_short-clause-proceeds g c ls = proceeds_none g.Li.Listener.given g.Li.Listener.left g.Li.Listener.rest g.L.Link.identity g.Li.Listener.ended g.Li.Listener.faults g.Do.Done.taken g.Do.Done.count g.Do.Done.served ls c.args.self.now c.args.done.now (g.met.Do.Done.small c.args.done.now)
 
 pub returns-in-Nothing-clause-proceeds : goal.returns-in-Nothing-clause-proceeds
-returns-in-Nothing-clause-proceeds g c ls = placed_proceeds g.Li.Listener.given g.Li.Listener.left g.L.Link.identity g.Li.Listener.ended g.Li.Listener.faults g.Do.Done.taken g.Do.Done.count g.Do.Done.served ls _ _ _ Nothing (g.met.Do.Done.small c.args.done.now) c.place.ensures.logs c.place.ensures.stays c.in-Nothing.ensures.placed
+returns-in-Nothing-clause-proceeds g c ls = placed_proceeds g.Li.Listener.given g.Li.Listener.left g.Li.Listener.rest g.L.Link.identity g.Li.Listener.ended g.Li.Listener.faults g.Do.Done.taken g.Do.Done.count g.Do.Done.served ls _ _ _ Nothing (g.met.Do.Done.small c.args.done.now) c.place.ensures.logs c.place.ensures.stays c.in-Nothing.ensures.placed
 
 pub returns-in-Waiting-clause-proceeds : goal.returns-in-Waiting-clause-proceeds
-returns-in-Waiting-clause-proceeds g c ls = placed_proceeds g.Li.Listener.given g.Li.Listener.left g.L.Link.identity g.Li.Listener.ended g.Li.Listener.faults g.Do.Done.taken g.Do.Done.count g.Do.Done.served ls _ _ _ Waiting (g.met.Do.Done.small c.args.done.now) c.place.ensures.logs c.place.ensures.stays c.in-Waiting.ensures.placed
+returns-in-Waiting-clause-proceeds g c ls = placed_proceeds g.Li.Listener.given g.Li.Listener.left g.Li.Listener.rest g.L.Link.identity g.Li.Listener.ended g.Li.Listener.faults g.Do.Done.taken g.Do.Done.count g.Do.Done.served ls _ _ _ Waiting (g.met.Do.Done.small c.args.done.now) c.place.ensures.logs c.place.ensures.stays c.in-Waiting.ensures.placed
 
 pub returns-in-Waiting-clause-none_asked : goal.returns-in-Waiting-clause-none_asked
 returns-in-Waiting-clause-none_asked g c ls = none_asked ls c.args.self.now c.place.new.self c.place.ensures.stays.first c.place.ensures.stays.failed
@@ -32,9 +32,9 @@ pub take_known-requires-clause-spare : goal.take_known-requires-clause-spare
 take_known-requires-clause-spare g c = omega (arith, c.requires.spare, placed_out c.args.self.now c.place.new.self (Sent c.in-Sent.w) c.in-Sent.ensures.placed)
 
 pub returns-then-take_known-clause-proceeds : goal.returns-then-take_known-clause-proceeds
-returns-then-take_known-clause-proceeds g c ls = proceeds_trans g.Li.Listener.given g.Li.Listener.left g.L.Link.identity g.Li.Listener.ended g.Li.Listener.faults g.Do.Done.taken g.Do.Done.count g.Do.Done.served ls ls ls c.args.self.now c.place.new.self c.take_known.new.self c.args.done.now c.args.done.now c.take_known.new.done
-    (placed_proceeds g.Li.Listener.given g.Li.Listener.left g.L.Link.identity g.Li.Listener.ended g.Li.Listener.faults g.Do.Done.taken g.Do.Done.count g.Do.Done.served ls _ _ _ (Sent c.in-Sent.w) (g.met.Do.Done.small c.args.done.now) c.place.ensures.logs c.place.ensures.stays c.in-Sent.ensures.placed)
-    (hands_proceeds g.Li.Listener.given g.Li.Listener.left g.L.Link.identity g.Li.Listener.ended g.Li.Listener.faults g.Do.Done.taken g.Do.Done.count g.Do.Done.served ls _ _ _ _ (g.met.Do.Done.small c.args.done.now) c.take_known.ensures.hands)
+returns-then-take_known-clause-proceeds g c ls = proceeds_trans g.Li.Listener.given g.Li.Listener.left g.Li.Listener.rest g.L.Link.identity g.Li.Listener.ended g.Li.Listener.faults g.Do.Done.taken g.Do.Done.count g.Do.Done.served ls ls ls c.args.self.now c.place.new.self c.take_known.new.self c.args.done.now c.args.done.now c.take_known.new.done
+    (placed_proceeds g.Li.Listener.given g.Li.Listener.left g.Li.Listener.rest g.L.Link.identity g.Li.Listener.ended g.Li.Listener.faults g.Do.Done.taken g.Do.Done.count g.Do.Done.served ls _ _ _ (Sent c.in-Sent.w) (g.met.Do.Done.small c.args.done.now) c.place.ensures.logs c.place.ensures.stays c.in-Sent.ensures.placed)
+    (hands_proceeds g.Li.Listener.given g.Li.Listener.left g.Li.Listener.rest g.L.Link.identity g.Li.Listener.ended g.Li.Listener.faults g.Do.Done.taken g.Do.Done.count g.Do.Done.served ls _ _ _ _ (g.met.Do.Done.small c.args.done.now) c.take_known.ensures.hands)
 
 pub returns-then-take_known-clause-none_asked : goal.returns-then-take_known-clause-none_asked
 returns-then-take_known-clause-none_asked g c ls = asked_none g.L.Link.identity c.args.self.now c.place.new.self c.place.ensures.logs ls _ _ _ c.take_known.new.self _ _ c.in-Sent.w c.place.ensures.stays c.in-Sent.ensures.placed c.take_known.ensures.hands
@@ -43,9 +43,9 @@ pub returns-then-take_known-clause-refusals : goal.returns-then-take_known-claus
 returns-then-take_known-clause-refusals g c = ap is_some (c.take_known.ensures.refused ∙ refused_sent c.args.self.now c.place.new.self c.in-Sent.w c.in-Sent.ensures.placed c.requires.unrefused)
 
 pub returns-else-take_known-clause-proceeds : goal.returns-else-take_known-clause-proceeds
-returns-else-take_known-clause-proceeds g c ls = proceeds_trans g.Li.Listener.given g.Li.Listener.left g.L.Link.identity g.Li.Listener.ended g.Li.Listener.faults g.Do.Done.taken g.Do.Done.count g.Do.Done.served ls ls ls c.args.self.now c.place.new.self c.take_known.new.self c.args.done.now c.args.done.now c.take_known.new.done
-    (placed_proceeds g.Li.Listener.given g.Li.Listener.left g.L.Link.identity g.Li.Listener.ended g.Li.Listener.faults g.Do.Done.taken g.Do.Done.count g.Do.Done.served ls _ _ _ (Sent c.in-Sent.w) (g.met.Do.Done.small c.args.done.now) c.place.ensures.logs c.place.ensures.stays c.in-Sent.ensures.placed)
-    (hands_proceeds g.Li.Listener.given g.Li.Listener.left g.L.Link.identity g.Li.Listener.ended g.Li.Listener.faults g.Do.Done.taken g.Do.Done.count g.Do.Done.served ls _ _ _ _ (g.met.Do.Done.small c.args.done.now) c.take_known.ensures.hands)
+returns-else-take_known-clause-proceeds g c ls = proceeds_trans g.Li.Listener.given g.Li.Listener.left g.Li.Listener.rest g.L.Link.identity g.Li.Listener.ended g.Li.Listener.faults g.Do.Done.taken g.Do.Done.count g.Do.Done.served ls ls ls c.args.self.now c.place.new.self c.take_known.new.self c.args.done.now c.args.done.now c.take_known.new.done
+    (placed_proceeds g.Li.Listener.given g.Li.Listener.left g.Li.Listener.rest g.L.Link.identity g.Li.Listener.ended g.Li.Listener.faults g.Do.Done.taken g.Do.Done.count g.Do.Done.served ls _ _ _ (Sent c.in-Sent.w) (g.met.Do.Done.small c.args.done.now) c.place.ensures.logs c.place.ensures.stays c.in-Sent.ensures.placed)
+    (hands_proceeds g.Li.Listener.given g.Li.Listener.left g.Li.Listener.rest g.L.Link.identity g.Li.Listener.ended g.Li.Listener.faults g.Do.Done.taken g.Do.Done.count g.Do.Done.served ls _ _ _ _ (g.met.Do.Done.small c.args.done.now) c.take_known.ensures.hands)
 
 pub returns-else-take_known-clause-none_asked : goal.returns-else-take_known-clause-none_asked
 returns-else-take_known-clause-none_asked g c ls = asked_none g.L.Link.identity c.args.self.now c.place.new.self c.place.ensures.logs ls _ _ _ c.take_known.new.self _ _ c.in-Sent.w c.place.ensures.stays c.in-Sent.ensures.placed c.take_known.ensures.hands

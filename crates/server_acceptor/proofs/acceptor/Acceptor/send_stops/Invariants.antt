@@ -7,7 +7,7 @@ use Rattle.server_acceptor.proofs.acceptor.Acceptor.send_stops.Given as goal
 
 abbrev pub invariant-loop-w : goal.invariant-loop-w
 invariant-loop-w g l = record {
-  proceeds : (listeners : List g.row.Li.Denot) (done : g.row.Do.Denot) → Proceeds g.Li.Listener.given g.Li.Listener.left g.L.Link.identity g.Li.Listener.ended g.Li.Listener.faults
+  proceeds : (listeners : List g.row.Li.Denot) (done : g.row.Do.Denot) → Proceeds g.Li.Listener.given g.Li.Listener.left g.Li.Listener.rest g.L.Link.identity g.Li.Listener.ended g.Li.Listener.faults
       g.Do.Done.taken g.Do.Done.count g.Do.Done.served listeners listeners l.fn.self l.self done done;
   only : StopsOnly l.fn.self l.self;
   got : (v : ℕ) → v < l.w → slice_index_or (stopped_of l.self) v false ≡ true;

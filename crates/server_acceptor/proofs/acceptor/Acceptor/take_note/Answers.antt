@@ -3,7 +3,7 @@ use Rattle.std.specs.Prelude.{slice_index_or}
 use Rattle.std.specs.List.{list_all}
 use Rattle.std.proofs.Math.ListN.{length-set}
 use Rattle.std.proofs.lemmas.List.Elements.{All-nil}
-use Rattle.server_run.proofs.Progress.{adds_none}
+use Rattle.server_acceptor.proofs.Giving.{adds_none}
 use Rattle.server_jobs.specs.Cards.{of_note}
 use Rattle.server_jobs.specs.declared.note.Note.TheVariants.{Ready, Back, Faulted}
 use Rattle.server_acceptor.proofs.HandSteps.{balance_same, balance_then, came_more, came_then, kept_notes, kept_then, noted_then, out_at_back, out_some, rings_then, same_ends, spare_left}

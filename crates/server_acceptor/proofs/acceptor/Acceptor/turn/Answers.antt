@@ -7,7 +7,7 @@ use Rattle.server_acceptor.proofs.acceptor.Acceptor.turn.Goals as goal
 
 pub returns-in-WorkerEnded-clause-does : goal.returns-in-WorkerEnded-clause-does
 returns-in-WorkerEnded-clause-does g c =
-    turn_does _ _ _ _ _ _ _ _ _ _ _ _ c.args.self.now _ c.make_turn-step.new.self _ (record { core = refl; parcels = refl; notes = refl; ready = refl; waiting = refl; serial = refl; places = refl; failed = refl; retry_limit = refl; lacks_room = refl }) c.clear.ensures.items (record { core = refl; parcels = refl; notes = refl; ready = refl; waiting = refl; serial = refl; places = refl; failed = refl; retry_limit = refl; lacks_room = refl }) refl c.make_turn-step.ensures.proceeds
+    turn_does _ _ _ _ _ _ _ _ _ _ _ _ _ c.args.self.now _ c.make_turn-step.new.self _ (record { core = refl; parcels = refl; notes = refl; ready = refl; waiting = refl; serial = refl; places = refl; failed = refl; retry_limit = refl; lacks_room = refl }) c.clear.ensures.items (record { core = refl; parcels = refl; notes = refl; ready = refl; waiting = refl; serial = refl; places = refl; failed = refl; retry_limit = refl; lacks_room = refl }) refl c.make_turn-step.ensures.proceeds
 
 pub returns-in-WorkerEnded-clause-in_turn : goal.returns-in-WorkerEnded-clause-in_turn
 returns-in-WorkerEnded-clause-in_turn g c =
@@ -26,8 +26,8 @@ returns-clause-spare g c = subst (λ k. sum k.out + held k.waiting ≤ g.Do.Done
 
 pub returns-clause-does : goal.returns-clause-does
 returns-clause-does g c =
-    turn_does_stops _ _ _ _ _ _ _ _ _ _ _ _ c.args.self.now _ c.come_to.new.self c.come_to.ensures.only (c.come_to.ensures.proceeds c.make_turn-step.new.listeners.items c.make_turn-step.new.done)
-    (turn_does _ _ _ _ _ _ _ _ _ _ _ _ c.args.self.now _ c.make_turn-step.new.self _ (record { core = refl; parcels = refl; notes = refl; ready = refl; waiting = refl; serial = refl; places = refl; failed = refl; retry_limit = refl; lacks_room = refl }) c.clear.ensures.items (record { core = refl; parcels = refl; notes = refl; ready = refl; waiting = refl; serial = refl; places = refl; failed = refl; retry_limit = refl; lacks_room = refl }) refl c.make_turn-step.ensures.proceeds)
+    turn_does_stops _ _ _ _ _ _ _ _ _ _ _ _ _ c.args.self.now _ c.come_to.new.self c.come_to.ensures.only (c.come_to.ensures.proceeds c.make_turn-step.new.listeners.items c.make_turn-step.new.done)
+    (turn_does _ _ _ _ _ _ _ _ _ _ _ _ _ c.args.self.now _ c.make_turn-step.new.self _ (record { core = refl; parcels = refl; notes = refl; ready = refl; waiting = refl; serial = refl; places = refl; failed = refl; retry_limit = refl; lacks_room = refl }) c.clear.ensures.items (record { core = refl; parcels = refl; notes = refl; ready = refl; waiting = refl; serial = refl; places = refl; failed = refl; retry_limit = refl; lacks_room = refl }) refl c.make_turn-step.ensures.proceeds)
 
 pub returns-clause-once : goal.returns-clause-once
 returns-clause-once g c = subst (λ v. OnceEach v.items) (sym c.come_to.ensures.only.events) c.make_turn-step.ensures.once

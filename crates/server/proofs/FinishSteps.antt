@@ -1,0 +1,253 @@
+-- What a run comes to with workers that were started.
+use Rattle.std.proofs.Common.{◌≡◌, ◌⊎◌, ◌<◌, ◌^◌, ◌++◌, ◌∷◌, [], zero, suc, ℕ, ◌+◌, Bool, true, false, List, drop, length, map, replicate, All, Contains, Option, Some, None, IfSome, slice_get, slice_index_or, sum_by, refl, sym, ◌∙◌, ap, arith, subst, inl, inr}
+use Rattle.std.specs.Prelude.{sum}
+use Rattle.std.specs.List.{list_all}
+use Rattle.std.specs.Option.{option_map, option_map_or}
+use Rattle.std.proofs.lemmas.Bool.Decides.{nat_tests}
+use Rattle.std.proofs.lemmas.List.{append-nil, length-map, length-replicate}
+use Rattle.std.proofs.lemmas.List.Sums.{sum_by-cons}
+use Rattle.std.proofs.lemmas.List.Elements.{All-contains, All-head, All-map}
+use Rattle.std.proofs.lemmas.Option.{get_or_from_slice_get, slice_get_within}
+use Rattle.std.specs.declared.alloc.Global.{Global}
+use Rattle.rtrb.specs.declared.AnyItems.{AnyItems}
+use Rattle.rtrb.specs.declared.consumer.Consumer.{Consumer}
+use Rattle.rtrb.specs.declared.producer.Producer.{Producer}
+use Rattle.rtrb.specs.Ring.{received, sent}
+use Rattle.service_core.specs.Link.{Identity}
+use Rattle.service_core.specs.Meaning.{Readiness}
+use Rattle.service_core.specs.declared.ended.Ended.{Ended}
+use Rattle.server_run.specs.Creating.{IsStartup}
+use Rattle.server_run.specs.Delivery.{left_at, once_below, rise}
+use Rattle.server_run.specs.Done.{Adds, served_count}
+use Rattle.server_run.specs.Serving.{Serves, Untouched}
+use Rattle.server_run.specs.declared.entry.Entry.{Entry}
+use Rattle.server_run.specs.Listener.{Mark}
+use Rattle.server_run.specs.Report.{Tells, IsTold as TellsOf}
+use Rattle.server_run.specs.declared.report.Report.{Report}
+use Rattle.server_run.specs.declared.report.End.{End}
+use Rattle.server_run.specs.declared.report.End.TheVariants.{Drained, Memory}
+use Rattle.server_run.specs.declared.report.ListenerState.TheVariants.{Faulted}
+use Rattle.server_run.specs.declared.serve_error.ServeError.{ServeError}
+use Rattle.server_jobs.specs.Cards.{Card, of_note, of_parcel}
+use Rattle.server_jobs.specs.Jobs.{job_of}
+use Rattle.server_jobs.specs.Joins.{IsLine}
+use Rattle.server_jobs.specs.declared.handed.Handed.{Handed}
+use Rattle.server_jobs.specs.declared.line.Line.{Line}
+use Rattle.server_jobs.specs.declared.note.Note.{Note}
+use Rattle.server_jobs.specs.declared.note.Note.TheVariants.{Ready}
+use Rattle.server_jobs.specs.declared.parcel.Parcel.{Parcel}
+use Rattle.server_jobs.specs.declared.running.Running.{Running}
+use Rattle.server_jobs.specs.declared.waiting.Waiting.{Waiting}
+use Rattle.server_worker.specs.Sound.{IsTold}
+use Rattle.server_acceptor.specs.Accepting.{Finishes, IsNoted}
+use Rattle.server_acceptor.specs.Acceptors.{all_ready, core_of, notes_of, parcels_of, ready_of, retry_limit_of, serial_of, waiting_of}
+use Rattle.server_acceptor.specs.Beginning.{IsNew}
+use Rattle.server_acceptor.specs.Carrying.{Carries, came_back, each, has_place, in_waiting, put}
+use Rattle.server_acceptor.specs.Notes.{count_back}
+use Rattle.server_acceptor.specs.Rings.{ring_in, ring_out}
+use Rattle.server_acceptor.specs.States.{IsStateOf}
+use Rattle.server_acceptor.specs.declared.acceptor.Acceptor.{Acceptor}
+use Rattle.worker_job.specs.Jobs.{factory_of, listeners_of}
+use Rattle.worker_job.specs.Promise.{HandsOver}
+use Rattle.worker_job.specs.declared.departure.Departure.{Departure}
+use Rattle.worker_job.specs.declared.worker_job.WorkerJob.{WorkerJob}
+use Rattle.server.specs.Accepting.{Accepts}
+use Rattle.server.specs.Failing.{IsErrorOf}
+use Rattle.server.specs.Joining.{IsJoined, IsUnstarted, ReturnsAll}
+use Rattle.server.specs.Rows.{lines_of}
+use Rattle.server.specs.Starting.{IsStarted, RunsFor}
+use Rattle.server.specs.declared.unstarted.Unstarted.{Unstarted}
+use Rattle.server.proofs.Delivering.{delivers, ones}
+use Rattle.server.proofs.ReturnSteps.{balanced_lines, none_at, none_by, parcel_none, returns_all}
+use Rattle.server.proofs.Rows.{lines_join, lines_length, map_notes, map_parcels, runs_kept}
+use Rattle.server.proofs.StartSteps.{carries_start, no_drop}
+use Rattle.server.proofs.TellSteps.{none_ended, tells_all, told_exactly}
+use Rattle.server_acceptor.proofs.Failing.{has_failed}
+
+-- ---- nothing came
+at_of_none : {X : Type 0} (f : X → ℕ) (xs : List X) (w : ℕ) → sum_by f xs ≡ 0 → option_map_or f (slice_get xs w) 0 ≡ 0
+at_of_none f [] w nothing = refl
+at_of_none f (x ∷ xs) zero nothing = omega (arith, sum_by-cons f x xs, nothing)
+at_of_none f (x ∷ xs) (suc w) nothing = at_of_none f xs w (omega (arith, sum_by-cons f x xs, nothing))
+
+none_of_at : {X : Type 0} (f : X → ℕ) (xs : List X) → ((w : ℕ) → option_map_or f (slice_get xs w) 0 ≡ 0) → sum_by f xs ≡ 0
+none_of_at f [] nothing = refl
+none_of_at f (x ∷ xs) nothing = omega (arith, sum_by-cons f x xs, nothing zero, none_of_at f xs (λ w. nothing (suc w)))
+
+none_below : (n : ℕ) → once_below n 0 ≡ 0 → n ≡ 0
+none_below n nothing = grind (arith, nat_tests)
+
+no_length : {X : Type 0} (xs : List X) → length xs ≡ 0 → xs ≡ []
+no_length [] nothing = refl
+no_length (x ∷ xs) nothing = absurd (omega arith)
+
+added_none : {X : Type 0} (o : Option (List X)) → option_map (λ before. before ++ []) o ≡ o
+added_none None = refl
+added_none (Some xs) = ap Some (append-nil xs)
+
+waits_none : {L : Type 0} (identity : L → Identity) (h : Card → ℕ) (o : Option (Waiting L)) → in_waiting identity (λ c. 1) o ≡ 0 → in_waiting identity h o ≡ 0
+waits_none identity h None nothing = refl
+waits_none identity h (Some w) nothing = absurd (omega (arith, nothing))
+
+module _ {Li L D : Type 0} (given : Li → ℕ) (left : Li → Option (List L)) (identity : L → Identity) (taken : D → Option (List (Entry L))) (count served : D → ℕ)
+    (before after : List Li) (a : Acceptor L) (old new : D) (more : List (Entry L)) (carries : Carries given left identity before after a more) (adds : Adds taken count served old new more)
+    (small : (count old < 2 ^ 64) × (served old < 2 ^ 64)) (nothing : serial_of a ≡ 0) where
+  puts_none : put identity (λ c. 1) a.parcels.items ≡ 0
+  puts_none = omega (arith, carries.count, nothing)
+
+  weighs_none : (h : Card → ℕ) → put identity h a.parcels.items + in_waiting identity h a.waiting ≡ 0
+  weighs_none h =
+      let p : put identity h a.parcels.items ≡ 0 =
+      none_by (λ p. sum_by (of_parcel identity (λ c. 1)) (sent p)) (λ p. sum_by (of_parcel identity h) (sent p)) (λ p. none_by (of_parcel identity (λ c. 1)) (of_parcel identity h) (parcel_none identity h) (sent p)) a.parcels.items puts_none in
+      let w : in_waiting identity h a.waiting ≡ 0 = waits_none identity h a.waiting (omega (arith, carries.count, nothing)) in
+      omega (arith, p, w)
+
+  rises_none : (t : ℕ) → rise given before after t ≡ 0
+  rises_none t = none_below (rise given before after t) (sym (carries.places t 0) ∙ weighs_none (each (has_place t 0)))
+
+  backs_none : came_back identity (λ c. 1) a.notes.items ≡ 0
+  backs_none = none_of_at (λ c. sum_by (of_note identity (λ c. 1)) (received c)) a.notes.items
+      (λ w. let e : count_back identity a.notes.items w ≡ 0 = omega (arith, carries.out w, at_of_none (λ p. sum_by (of_parcel identity (λ c. 1)) (sent p)) a.parcels.items w puts_none) in e)
+
+  no_more : more ≡ []
+  no_more =
+      let back : came_back identity (λ c. 1) a.notes.items ≡ sum_by (λ (e : Entry L). 1) more = carries.back (λ c. 1) in
+      no_length more (omega (arith, ones more, back, backs_none))
+
+  pub untouched : Untouched given left taken count served before after old new
+  untouched = record {
+    given_same = λ t. let none = rises_none t in let rises = carries.rises t in omega (arith, none, rises);
+    left_same = λ t. carries.remains t ∙ subst (λ n. option_map (drop n) (left_at left before t) ≡ left_at left before t) (sym (rises_none t)) (sym (no_drop (left_at left before t)));
+    keeps = record {
+      list = adds.list ∙ ap (λ es. option_map (λ xs. xs ++ es) (taken old)) no_more ∙ added_none (taken old);
+      number = let n = ap length no_more in omega (arith, adds.number, n, small.0);
+      number_served = let n = ap served_count no_more in omega (arith, adds.number_served, n, small.1);
+    };
+  }
+
+-- ---- a run
+pub none_of : {X : Type 0} (o : Option X) → ((x : X) → o ≡ Some x → ⊥) → o ≡ None
+none_of None other = refl
+none_of (Some x) other = absurd (other x refl)
+
+finished : {L : Type 0} (a : Acceptor L) (end : End) → Finishes a end → (waiting_of a ≡ None) × (sum (core_of a).out ≡ 0)
+finished a Drained f = (f.1, f.2)
+finished a Memory f = (f.1, f.2)
+
+-- a mark is set at each place
+marked : (marks : List Bool) (w : ℕ) → list_all (λ m. m) marks ≡ true → w < length marks → slice_index_or marks w false ≡ true
+marked [] w all inside = absurd (omega arith)
+marked (true ∷ marks) zero all inside = refl
+marked (true ∷ marks) (suc w) all inside = marked marks w all (omega arith)
+marked (false ∷ marks) w all inside = absurd (cc)
+
+-- no mark is set at the start
+unmarked : (n w : ℕ) → slice_index_or (replicate n false) w false ≡ true → ⊥
+unmarked zero w is = cc
+unmarked (suc n) zero is = cc
+unmarked (suc n) (suc w) is = unmarked n w is
+
+-- the first line, with what is known of its ring back
+first_line : {L J O : Type 0} (P : Line L J O → Type 0) (Q : Consumer (Note L) Global AnyItems → Type 0) (ps : List (Producer (Parcel L) Global AnyItems)) (ns : List (Consumer (Note L) Global AnyItems)) (rs : List (Running J O))
+    → 0 < length rs → length ps ≡ length rs → length ns ≡ length rs → All P (lines_of ps ns rs) → IfSome (slice_get ns 0) Q → (line : Line L J O) × P line × Q line.notes
+first_line P Q ps ns [] some same too all has = absurd (omega (arith, some))
+first_line P Q [] ns (r ∷ rs) some same too all has = absurd (omega (arith, same))
+first_line P Q (p ∷ ps) [] (r ∷ rs) some same too all has = absurd (omega (arith, too))
+first_line P Q (p ∷ ps) (n ∷ ns) (r ∷ rs) some same too all has =
+    (record { parcels = p; notes = n; running = r }, All-head P (record { parcels = p; notes = n; running = r }) (lines_of ps ns rs) all, has)
+
+module _ {Li L D F E I : Type 0} (given : Li → ℕ) (left : Li → Option (List L)) (rest : Li → Option (List Mark)) (identity : L → Identity) (ended : Li → Bool) (faults : Li → ℕ)
+    (taken : D → Option (List (Entry L))) (count served : D → ℕ)
+    (may_serve : F → ℕ → L → Ended L → Type 0) (may_leave : F → ℕ → L → L → Type 0) (may_ready : F → ℕ → Readiness E → Type 0) (may_init : F → ℕ → I → Type 0) (may_make : F → ℕ → Type 0)
+    (factory : F) (listeners limit retry_limit timeout : ℕ) (before after : List Li) (a b : Acceptor L) (rs : List (Running (WorkerJob L F) (Handed L F (Departure I)))) (old new : D)
+    (fresh : IsNew a (parcels_of a) (notes_of a) listeners limit retry_limit timeout)
+    (as_many : (length (parcels_of a) ≡ length rs) × (length (notes_of a) ≡ length rs))
+    (started : All (IsStarted may_serve may_leave may_ready may_init may_make factory listeners) (lines_of (parcels_of a) (notes_of a) rs))
+    (accepts : Accepts given left rest identity ended faults taken count served before after a b old new) where
+  -- what the acceptor took and what it handed on
+  carried : Carries given left identity before after b accepts.does.passes.more
+  carried = accepts.does.passes.carries before [] (carries_start given left identity before a (parcels_of a) (notes_of a) listeners limit retry_limit timeout fresh
+      (subst (All (λ p. sent p ≡ [])) (sym (map_parcels (parcels_of a) (notes_of a) rs as_many.0 as_many.1)) (All-map (λ p. sent p ≡ []) (λ l. l.parcels) (lines_of (parcels_of a) (notes_of a) rs) (λ i d inside. (started i d inside).sent_none)))
+      (subst (All (λ c. received c ≡ [])) (sym (map_notes (parcels_of a) (notes_of a) rs as_many.0 as_many.1)) (All-map (λ c. received c ≡ []) (λ l. l.notes) (lines_of (parcels_of a) (notes_of a) rs) (λ i d inside. (started i d inside).received_none))))
+
+  -- nothing was accepted where no service stood in time
+  pub refuses : (count old < 2 ^ 64) × (served old < 2 ^ 64) → (all_ready b ≡ false) ⊎ (serial_of b ≡ 0) → Untouched given left taken count served before after old new
+  refuses small (inl lacks) = accepts.does.awaits.early lacks
+  refuses small (inr nothing) = untouched given left identity taken count served before after b old new accepts.does.passes.more carried accepts.does.passes.adds small nothing
+
+  -- the same rings, whatever went over them
+  module _ (qs : List (Producer (Parcel L) Global AnyItems)) (ms : List (Consumer (Note L) Global AnyItems))
+      (ins : map ring_in qs ≡ map ring_in (parcels_of b)) (outs : map ring_out ms ≡ map ring_out (notes_of b)) where
+    pub many_after : (length qs ≡ length rs) × (length ms ≡ length rs)
+    many_after = (
+      (let e = ap length (ins ∙ accepts.does.rings.parcels) in omega (arith, e, length-map qs ring_in, length-map (parcels_of a) ring_in, as_many.0)),
+      (let e = ap length (outs ∙ accepts.does.rings.notes) in omega (arith, e, length-map ms ring_out, length-map (notes_of a) ring_out, as_many.1)),
+    )
+
+    runs_after : All (RunsFor may_serve may_leave may_ready may_init may_make factory listeners) (lines_of qs ms rs)
+    runs_after = runs_kept may_serve may_leave may_ready may_init may_make factory listeners (parcels_of a) qs (notes_of a) ms rs (ins ∙ accepts.does.rings.parcels) (outs ∙ accepts.does.rings.notes) (λ i d inside. (started i d inside).runs)
+
+    pub joins_after : All (IsLine identity {D = Departure I} (λ job out. HandsOver identity may_serve may_leave may_init may_make job out) (λ all. all)) (lines_of qs ms rs)
+    joins_after = lines_join may_serve may_leave may_ready may_init may_make factory listeners identity (lines_of qs ms rs) runs_after
+
+    -- a service that could not be made
+    unstarted_is : (worker token : ℕ) (error : I) → IsUnstarted {F = F} (λ job out. HandsOver identity may_serve may_leave may_init may_make job out) (λ all. all) (lines_of qs ms rs) worker token error
+        → (worker < length rs) × (token < listeners) × may_init factory token error
+    unstarted_is worker token error u =
+        let inside = slice_get_within (lines_of qs ms rs) worker u.line u.at in
+        let runs : RunsFor may_serve may_leave may_ready may_init may_make factory listeners u.line =
+        subst (RunsFor may_serve may_leave may_ready may_init may_make factory listeners) (get_or_from_slice_get (lines_of qs ms rs) worker u.line u.line u.at) (runs_after worker u.line inside) in
+        let departs : (token < listeners_of (job_of u.line.running)) × may_init (factory_of (job_of u.line.running)) token error = rw u.departed at u.promised.departs in
+        (omega (arith, inside, lines_length qs ms rs many_after.0 many_after.1), subst (λ n. token < n) runs.as_many departs.0, runs.means.inits token error departs.1)
+
+    pub startup_is : (workers : ℕ) → workers ≡ length rs → (unstarted : Option (Unstarted I)) (error : ServeError I)
+        → IfSome unstarted (λ u. IsUnstarted {F = F} (λ job out. HandsOver identity may_serve may_leave may_init may_make job out) (λ all. all) (lines_of qs ms rs) u.worker u.token u.error)
+        → IsErrorOf unstarted error → IsStartup workers listeners (may_init factory) error
+    startup_is workers many None error knows is = subst (IsStartup workers listeners (may_init factory)) (sym is) tt
+    startup_is workers many (Some u) error knows is =
+        let known = unstarted_is u.worker u.token u.error knows in
+        subst (IsStartup workers listeners (may_init factory)) (sym is) (omega (arith, many, known.0), known.1, known.2)
+
+  -- all that was out is back
+  module _ (qs : List (Producer (Parcel L) Global AnyItems)) (ms : List (Consumer (Note L) Global AnyItems)) (parcels : qs ≡ parcels_of b) (notes : ms ≡ notes_of b)
+      (end : End) (finishes : Finishes b end)
+      (joined : All (IsJoined {D = Departure I} identity (λ job out. HandsOver identity may_serve may_leave may_init may_make job out) (λ all. all)) (lines_of qs ms rs)) where
+    returned : All (ReturnsAll identity (may_serve factory) (may_leave factory) (may_make factory) listeners) (lines_of (parcels_of b) (notes_of b) rs)
+    returned = returns_all may_serve may_leave may_ready may_init may_make identity factory listeners (lines_of (parcels_of b) (notes_of b) rs) (runs_after (parcels_of b) (notes_of b) refl refl)
+        (subst (λ ps. All (IsJoined {D = Departure I} identity (λ job out. HandsOver identity may_serve may_leave may_init may_make job out) (λ all. all)) (lines_of ps (notes_of b) rs)) parcels
+        (subst (λ ns. All (IsJoined {D = Departure I} identity (λ job out. HandsOver identity may_serve may_leave may_init may_make job out) (λ all. all)) (lines_of qs ns rs)) notes joined))
+        (balanced_lines identity (parcels_of b) (notes_of b) rs (λ w. omega (arith, carried.out w, none_at (core_of b).out w (finished b end finishes).1)))
+
+    pub serves_all : ((f : F) (token : ℕ) (link : L) (ended : Ended L) → may_serve f token link ended → identity ended.link ≡ identity link)
+        → ((f : F) (token : ℕ) (link back : L) → may_leave f token link back → identity back ≡ identity link)
+        → Serves given left identity (may_serve factory) (may_leave factory) taken count served before after old new
+    serves_all same_served same_left = record {
+      entries = accepts.does.passes.more;
+      adds = accepts.does.passes.adds;
+      delivers = delivers identity (may_serve factory) (may_leave factory) (may_make factory) listeners given left before after b accepts.does.passes.more (lines_of (parcels_of b) (notes_of b) rs)
+          (same_served factory) (same_left factory) carried (finished b end finishes).0
+          (map_parcels (parcels_of b) (notes_of b) rs (many_after (parcels_of b) (notes_of b) refl refl).0 (many_after (parcels_of b) (notes_of b) refl refl).1)
+          (map_notes (parcels_of b) (notes_of b) rs (many_after (parcels_of b) (notes_of b) refl refl).0 (many_after (parcels_of b) (notes_of b) refl refl).1)
+          returned;
+    }
+
+    pub made_all : 0 < length rs → all_ready b ≡ true → (token : ℕ) → token < listeners → may_make factory token
+    made_all some ready =
+        let many = many_after (parcels_of b) (notes_of b) refl refl in
+        let noted : IsNoted b = accepts.does.awaits.noted (λ w is. absurd (unmarked (length (parcels_of a)) w (subst (λ marks. slice_index_or marks w false ≡ true) fresh.ready is))) in
+        let first = first_line (ReturnsAll identity (may_serve factory) (may_leave factory) (may_make factory) listeners) (λ c. Contains (received c) Ready) (parcels_of b) (notes_of b) rs some many.0 many.1 returned
+        (noted 0 (marked (ready_of b) 0 ready (omega (arith, some, many.0, b.workers)))) in
+        All-contains (IsTold (may_serve factory) (may_leave factory) (may_make factory) listeners (sent first.0.parcels)) (received first.0.notes) Ready first.1.told first.2
+
+  -- what is told of the listeners
+  pub tells_run : (report : Report) → Finishes b report.end → listeners ≡ length before → length report.listeners.items ≡ length after
+      → ((t : ℕ) → IfSome (slice_get report.listeners.items t) (IsStateOf (core_of b) (retry_limit_of b) t)) → Tells rest ended faults (retry_limit_of a) before after report
+  tells_run report finishes listens many states =
+      tells_all rest ended faults (retry_limit_of a) before after (core_of a) b report (λ t. ap (λ s. slice_index_or s.ended t false) fresh.core ∙ none_ended listeners t) accepts.does.tells finishes accepts.does.as_many many
+      (let e = ap (λ s. length s.ended) fresh.core in omega (arith, e, accepts.does.listeners, accepts.does.as_many, listens, length-replicate {A = Bool} listeners false))
+      (subst (λ n. (t : ℕ) → IfSome (slice_get report.listeners.items t) (IsStateOf (core_of b) n t)) accepts.does.limit states)
+      (λ t inside. has_failed given rest faults identity before after a b accepts.events (length (parcels_of a)) listeners fresh.core accepts.does.logged t (retry_limit_of a) (TellsOf report t (Faulted (retry_limit_of a)))
+      (told_exactly b report t (retry_limit_of a) accepts.does.limit (let e = all_there in omega (arith, e, inside)) (omega (arith, many, inside)) (states t)))
+    where
+      all_there : length (core_of b).ended ≡ length after
+      all_there = let e = ap (λ s. length s.ended) fresh.core in omega (arith, e, accepts.does.listeners, accepts.does.as_many, listens, length-replicate {A = Bool} listeners false)

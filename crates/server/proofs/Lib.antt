@@ -1,0 +1,9 @@
+pub mod Delivering
+pub mod FinishSteps
+pub mod JoinSteps
+pub mod ReturnSteps
+pub mod Rows
+pub mod StartSteps
+pub mod Starts
+pub mod TellSteps
+pub mod TurnSteps

@@ -1,0 +1,38 @@
+-- Workers that were joined.
+use Rattle.std.specs.Prelude.{◌≡◌, ◌++◌, ℕ, Some, slice_get, sum_by, All}
+use Rattle.rtrb.specs.Ring.{known_items, received, sent}
+use Rattle.service_core.specs.Link.{Identity}
+use Rattle.service_core.specs.declared.ended.Ended.{Ended}
+use Rattle.std.specs.Prelude.{List}
+use Rattle.server_jobs.specs.Cards.{Card, of_note, of_parcel}
+use Rattle.server_jobs.specs.Jobs.{job_of}
+use Rattle.server_jobs.specs.Joins.{EachOnce, Hands}
+use Rattle.server_jobs.specs.declared.handed.Handed.{Handed}
+use Rattle.server_jobs.specs.declared.line.Joined.{Joined}
+use Rattle.server_jobs.specs.declared.line.Line.{Line}
+use Rattle.server_worker.specs.Sound.{IsTold}
+use Rattle.worker_job.specs.declared.departure.Departure.{Departure}
+use Rattle.worker_job.specs.declared.departure.Departure.TheVariants.{Unstarted}
+
+-- A line was joined: its job handed over what it promised, and what went over its rings is known.
+pub record IsJoined {L F D J O : Type 0} (identity : L → Identity) (promise : J → O → Type 0) (handed : O → Handed L F D) (line : Line L J O) : Type 0 where
+  pub joined : Joined L F D
+  pub hands : Hands promise handed line joined
+  pub same_sent : sent joined.parcels ≡ sent line.parcels
+  pub same_received : received joined.notes ≡ received line.notes
+  pub to_it : received joined.handed.parcels ++ known_items joined.handed.parcels ≡ sent joined.parcels
+  pub from_it : received joined.notes ++ known_items joined.notes ≡ sent joined.handed.notes
+  pub once : EachOnce identity joined
+
+-- By what the job of a worker promised of what it handed over, the service of a token could not be made there.
+pub record IsUnstarted {L F I J O : Type 0} (promise : J → O → Type 0) (handed : O → Handed L F (Departure I)) (lines : List (Line L J O)) (worker token : ℕ) (error : I) : Type 0 where
+  pub line : Line L J O
+  pub at : slice_get lines worker ≡ Some line
+  pub out : O
+  pub promised : promise (job_of line.running) out
+  pub departed : (handed out).departure ≡ Unstarted token error
+
+-- All that was put on the ring to a worker came back, each once, and what its notes told is true.
+pub record ReturnsAll {L J O : Type 0} (identity : L → Identity) (may_serve : ℕ → L → Ended L → Type 0) (may_leave : ℕ → L → L → Type 0) (may_make : ℕ → Type 0) (listeners : ℕ) (line : Line L J O) : Type 0 where
+  pub once : (h : Card → ℕ) → sum_by (of_parcel identity h) (sent line.parcels) ≡ sum_by (of_note identity h) (received line.notes)
+  pub told : All (IsTold may_serve may_leave may_make listeners (sent line.parcels)) (received line.notes)

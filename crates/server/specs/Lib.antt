@@ -1,0 +1,7 @@
+pub mod Accepting
+pub mod Failing
+pub mod Joining
+pub mod Rows
+pub mod Servers
+pub mod Settings
+pub mod Starting

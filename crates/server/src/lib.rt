@@ -1,0 +1,21 @@
+//! The server: it starts its workers, accepts until its listeners have ended, and joins the workers again.
+#![tactic(auto)]
+
+mod accepting;
+mod builder;
+mod building;
+mod joining;
+mod prepared;
+mod rests;
+mod server;
+mod serving;
+mod settings;
+mod start_fault;
+mod starting;
+mod states;
+mod unstarted;
+
+pub use builder::ServerBuilder;
+pub use building::new;
+pub use server::Server;
+pub use settings::Settings;

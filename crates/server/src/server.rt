@@ -1,0 +1,142 @@
+ghost use Rattle.std.specs.Prelude.{◌≡◌, ◌↔◌, ◌≤◌, ◌<◌, ℕ, [], IfOk, OnOk, OnErr, IfErr, IsErrOf, Err, length, vec_len};
+ghost use Rattle.futures.specs.declared.task.Poll.TheVariants.{Ready};
+ghost use Rattle.service_core.specs.Counts.{Rose};
+ghost use Rattle.server_run.specs.Creating.{HasMeaningOf, IsStartup};
+ghost use Rattle.server_run.specs.Report.{Tells};
+ghost use Rattle.server_run.specs.Serving.{Serves, Untouched};
+ghost use Rattle.server_run.specs.declared.serve_error.ServeError.TheVariants.{NoListener, Spawn};
+ghost use Rattle.server.specs.Settings.{IsInRange, default_settings};
+ghost use Rattle.server.specs.Starting.{RoseBy};
+
+use crate::builder::ServerBuilder;
+use crate::joining::{join_all, stop_all, wake_all};
+use crate::prepared::Prepared;
+use crate::serving::serve_on;
+use crate::settings::Settings;
+use crate::starting::start_workers;
+use crate::states::tell_numbers;
+use server_acceptor::Acceptor;
+use server_jobs::{Clock, Spawner, ThreadFactory};
+use server_run::{Done, Host, Listener, Report, ServeError};
+use service_core::ServiceFactory;
+use std::alloc::{AllocError, Global};
+
+/// A server of the services that its factory makes (`actix-server`'s `Server`).
+#[derive(Drop)]
+pub struct Server<F> {
+    pub(crate) factory: F,
+    pub(crate) settings: Settings,
+    ghost ranges: { IsInRange settings },
+}
+
+impl Server<()> {
+    ghost use Rattle.server.specs.Servers.{settings_of};
+
+    /// A builder with the default settings.
+    pub fn build(alloc: Global) -> Result<ServerBuilder, AllocError>
+        ensures { IfOk result (λ builder. settings_of builder ≡ default_settings) }
+    {
+        ServerBuilder::new(alloc)
+    }
+}
+
+impl<F> Server<F> {
+    ghost use Rattle.server.specs.Servers.{factory_of, server_settings};
+
+    /// Serves each connection that the listeners give, on as many threads as there are workers, until each listener has ended,
+    /// or failed as often as it may. Each is handed to `done` with its link, exactly once.
+    ///
+    /// The worker that comes next in turn and has room gets a connection; where none has, it waits, and no listener is asked
+    /// meanwhile. Nothing is accepted before the services of all workers stand. An error comes before the first accept, and all
+    /// workers that were started are joined then, as they are at the end.
+    ///
+    /// It waits for its threads, and they for the links. Of a listener that tells nothing of the links still to come (its
+    /// `left` is `None`) `serves` holds little: how many entries there are, their numbers, and that each has some link as it
+    /// came back, but not which link of the listener.
+    pub fn serve<Ho, Li, Cl, Sp, Do>(
+        self,
+        rt: &Ho,
+        alloc: Global,
+        listeners: &mut Vec<Li>,
+        clock: &mut Cl,
+        spawner: &mut Sp,
+        done: &mut Do,
+    ) -> Result<Report, ServeError<<F::Factory as ServiceFactory<Li::Link>>::InitError>>
+    where
+        Ho: Host + 'static,
+        Li: Listener<Link: Send + 'static>,
+        F: ThreadFactory<Li::Link> + 'static,
+        Cl: Clock,
+        Sp: Spawner,
+        Do: Done<Li::Link>,
+        Li::Link: 'static,
+        <F::Factory as ServiceFactory<Li::Link>>::InitError: 'static,
+        requires few { vec_len listeners.old ≤ 64 }
+        requires never_errs { (token : ℕ) (e : F.Factory.Error) → F.may_ready (factory_of self) token (Ready (Err e)) → ⊥ }
+        requires clones { (copy : F) → F.is_clone (factory_of self) copy → HasMeaningOf F.may_serve F.may_leave F.may_ready F.may_init F.may_make (factory_of self) copy }
+        ensures no_listener { IsErrOf result NoListener ↔ (listeners.old.items ≡ []) }
+        ensures spawn { (worker : ℕ) → result ≡ Err (Spawn worker)
+            → Rose (Sp.refusals spawner.old) (Sp.refusals spawner.new) × RoseBy worker (Sp.starts spawner.old) (Sp.starts spawner.new) }
+        ensures unrefused { ((worker : ℕ) → result ≡ Err (Spawn worker) → ⊥) → Sp.refusals spawner.new ≡ Sp.refusals spawner.old }
+        ensures startup { IfErr result (IsStartup (server_settings self).workers (vec_len listeners.old) (F.may_init (factory_of self))) }
+        ensures same_count { length listeners.new.items ≡ length listeners.old.items }
+
+        // An error comes before the first accept.
+        ensures before { OnErr result (Untouched Li.given Li.left Do.taken Do.count Do.served listeners.old.items listeners.new.items done.old done.new) }
+
+        // Each connection that the listeners gave was handed to `done`, exactly once and with its link, as a service of its
+        // listener's token ended it.
+        ensures serves { OnOk result (Serves Li.given Li.left Li.Link.identity (F.may_serve (factory_of self)) (F.may_leave (factory_of self)) Do.taken Do.count Do.served listeners.old.items listeners.new.items done.old done.new) }
+        ensures told { IfOk result (λ report. Tells Li.rest Li.ended Li.faults (server_settings self).retry_limit listeners.old.items listeners.new.items report) }
+        ensures made { OnOk result ((token : ℕ) → token < vec_len listeners.old → F.may_make (factory_of self) token) }
+        ensures started { OnOk result (RoseBy (server_settings self).workers (Sp.starts spawner.old) (Sp.starts spawner.new)) }
+    {
+        if listeners.is_empty() {
+            return Err(ServeError::NoListener);
+        }
+        let Server { factory, settings } = self;
+        let count = listeners.len();
+        let Prepared {
+            room,
+            mut parcels,
+            mut notes,
+            mut numbers,
+            states,
+            queue,
+        } = Prepared::new(alloc, settings.workers, count)?;
+        let mut running = Vec::with_capacity(alloc, settings.workers)?;
+        let fault = start_workers(
+            spawner,
+            rt,
+            alloc,
+            &factory,
+            count,
+            settings.ring,
+            settings.workers,
+            &mut parcels,
+            &mut notes,
+            &mut running,
+        );
+        if let Some(fault) = fault {
+            let worker = running.len();
+            tell_numbers(&running, &mut numbers);
+            stop_all(&mut parcels);
+            wake_all::<Ho, Sp>(numbers.as_slice(), spawner);
+            join_all(rt, parcels, notes, running);
+            return Err(fault.error(worker));
+        }
+        let acceptor = Acceptor::with_room(
+            room,
+            parcels,
+            notes,
+            count,
+            settings.limit,
+            settings.retry_limit,
+            settings.shutdown_timeout,
+        );
+        serve_on(
+            rt, &factory, &queue, acceptor, running, numbers, states, listeners, clock, spawner,
+            done,
+        )
+    }
+}

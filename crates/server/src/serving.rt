@@ -1,0 +1,105 @@
+//! How the server serves once its workers are started.
+ghost use Rattle.std.specs.Prelude.{◌≡◌, ◌≤◌, ◌<◌, ℕ, All, [], IfOk, IfErr, OnOk, OnErr, IsErrOf, Err, length, vec_len, vec_capacity};
+ghost use Rattle.server_acceptor.specs.Acceptors.{limit_of, notes_of, parcels_of, retry_limit_of, shutdown_timeout_of};
+ghost use Rattle.server_acceptor.specs.Beginning.{IsNew};
+ghost use Rattle.server_run.specs.Creating.{IsStartup};
+ghost use Rattle.server_run.specs.Report.{Tells};
+ghost use Rattle.server_run.specs.Serving.{Serves, Untouched};
+ghost use Rattle.server_run.specs.declared.serve_error.ServeError.TheVariants.{NoListener, Spawn};
+ghost use Rattle.server.specs.Failing.{IsErrorOf};
+ghost use Rattle.server.specs.Rows.{lines_of};
+ghost use Rattle.server.specs.Starting.{IsStarted};
+
+use crate::accepting::accept_on;
+use crate::joining::{join_all, stop_all, wake_all};
+use crate::rests::Rests;
+use crate::states::{tell_numbers, tell_states};
+use crate::unstarted::Unstarted;
+use futures::task::Queue;
+use server_acceptor::Acceptor;
+use server_jobs::{Clock, Running, ThreadFactory};
+use server_run::{Done, Listener, ListenerState, Report, ServeError};
+use service_core::{Link, ServiceFactory};
+use std::sync::Wait;
+use std::thread::Threads;
+use worker_job::WorkerJob;
+
+// The error where a service could not be made, or where there was no memory.
+fn error_of<I>(unstarted: Option<Unstarted<I>>) -> ServeError<I>
+    ensures { IsErrorOf unstarted result }
+{
+    match unstarted {
+        Some(found) => ServeError::Startup {
+            worker: found.worker,
+            token: found.token,
+            error: found.error,
+        },
+        None => ServeError::Memory,
+    }
+}
+
+// Serves with workers that were started, and joins them.
+pub(crate) fn serve_on<Ho, Li, F, Cl, Sp, Do>(
+    rt: &Ho,
+    factory: &F,
+    queue: &Queue,
+    acceptor: Acceptor<Li::Link>,
+    running: Vec<Running<WorkerJob<Li::Link, F>>>,
+    numbers: Vec<usize>,
+    states: Vec<ListenerState>,
+    listeners: &mut Vec<Li>,
+    clock: &mut Cl,
+    spawner: &mut Sp,
+    done: &mut Do,
+) -> Result<Report, ServeError<<F::Factory as ServiceFactory<Li::Link>>::InitError>>
+where
+    Ho: Wait + Threads,
+    Li: Listener<Link: Send>,
+    F: ThreadFactory<Li::Link>,
+    Cl: Clock,
+    Sp: Rests<Ho>,
+    Do: Done<Li::Link>,
+    requires some { (1 ≤ vec_len running) × (1 ≤ vec_len listeners.old) }
+    requires fresh { IsNew acceptor (parcels_of acceptor) (notes_of acceptor) (vec_len listeners.old) (limit_of acceptor) (retry_limit_of acceptor) (shutdown_timeout_of acceptor) }
+    requires as_many { (length (parcels_of acceptor) ≡ length running.items) × (length (notes_of acceptor) ≡ length running.items) }
+    requires started { All (IsStarted F.may_serve F.may_leave F.may_ready F.may_init F.may_make factory.now (vec_len listeners.old)) (lines_of (parcels_of acceptor) (notes_of acceptor) running.items) }
+    requires room { (numbers.items ≡ []) × (vec_len running ≤ vec_capacity numbers) × (states.items ≡ []) × (vec_len listeners.old ≤ vec_capacity states) }
+    ensures same_count { length listeners.new.items ≡ length listeners.old.items }
+    ensures no_listener { IsErrOf result NoListener → ⊥ }
+    ensures no_spawn { (w : ℕ) → result ≡ Err (Spawn w) → ⊥ }
+    ensures startup { IfErr result (IsStartup (vec_len running) (vec_len listeners.old) (F.may_init factory.now)) }
+    ensures before { OnErr result (Untouched Li.given Li.left Do.taken Do.count Do.served listeners.old.items listeners.new.items done.old done.new) }
+    ensures serves { OnOk result (Serves Li.given Li.left Li.Link.identity (F.may_serve factory.now) (F.may_leave factory.now) Do.taken Do.count Do.served listeners.old.items listeners.new.items done.old done.new) }
+    ensures told { IfOk result (λ report. Tells Li.rest Li.ended Li.faults (retry_limit_of acceptor) listeners.old.items listeners.new.items report) }
+    ensures made { OnOk result ((token : ℕ) → token < vec_len listeners.old → F.may_make factory.now token) }
+    ensures counts { Sp.counts spawner.new ≡ Sp.counts spawner.old }
+{
+    let mut acceptor = acceptor;
+    let mut numbers = numbers;
+    let mut states = states;
+    tell_numbers(&running, &mut numbers);
+    let end = accept_on(
+        rt,
+        queue,
+        &mut acceptor,
+        numbers.as_slice(),
+        listeners,
+        clock,
+        spawner,
+        done,
+    );
+    let Some(end) = end else {
+        let (mut parcels, notes) = acceptor.into_rings();
+        stop_all(&mut parcels);
+        wake_all::<Ho, Sp>(numbers.as_slice(), spawner);
+        return Err(error_of(join_all(rt, parcels, notes, running)));
+    };
+    tell_states(&acceptor, listeners.len(), &mut states);
+    let (parcels, notes) = acceptor.into_rings();
+    wake_all::<Ho, Sp>(numbers.as_slice(), spawner);
+    join_all(rt, parcels, notes, running);
+    Ok(Report {
+        end,
+        listeners: states,
+    })
+}

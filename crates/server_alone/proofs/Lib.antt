@@ -1,0 +1,5 @@
+pub mod Deliver
+pub mod Lists
+pub mod Progress
+pub mod Reports
+pub mod Standing
