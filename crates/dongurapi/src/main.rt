@@ -5,6 +5,7 @@ ghost use Rattle.std.specs.Prelude.{◌≡◌, None};
 ghost use Rattle.script.specs.Words.{IsReplay};
 
 use command_line::{print, words_of};
+use server_edge::{SystemClock, ThreadSpawner};
 use server_program::{Streams, run};
 use service_core::Octets;
 use std::alloc::{AllocError, Global};
@@ -29,7 +30,7 @@ replay   reads a script of connections from standard input, serves each over a l
 
 status   0 served; 2 the words are none of these; 3 a line of the script is not understood, or the
          script is too long; 4 the script names no listener, or its policy is refused; 5 a read failed;
-         6 a write failed; 7 memory ran out";
+         6 a write failed; 7 memory ran out; 8 a worker could not be started";
 
 const VERSION: &str = "dongurapi 0.1.0";
 
@@ -77,7 +78,19 @@ fn main(rt: HostRuntime) -> ExitCode {
         // (a note for the reader alone: what is answered is the usage)
         let _ = eprintln!(rt; "dongurapi: listen and generate are not built yet");
     }
+    let Ok(mut spawner) = ThreadSpawner::new(alloc) else {
+        return ExitCode::from(print(&rt, OUT_OF_MEMORY, 7));
+    };
+    let mut clock = SystemClock::new(&rt);
     let mut source = Streams::new(&rt);
     let mut sink = Streams::new(&rt);
-    ExitCode::from(run(&rt, alloc, &words, &mut source, &mut sink))
+    ExitCode::from(run(
+        &rt,
+        alloc,
+        &words,
+        &mut source,
+        &mut sink,
+        &mut clock,
+        &mut spawner,
+    ))
 }

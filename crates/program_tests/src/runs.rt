@@ -1,5 +1,8 @@
-//! Runs of the program by words that are no form, and of each call of a source or a sink that fails.
+//! Runs of the program by words that are no form, of each call of a source or a sink that fails, and of starts that are
+//! refused.
 use crate::shown::{hold, holds};
+use server_edge::ScriptSpawner;
+use server_jobs::StepClock;
 use server_program::{MemorySink, MemorySource, run};
 use server_run::Host;
 use service_core::Octets;
@@ -8,11 +11,13 @@ use std::test::Fail;
 
 const NEVER: u64 = u64::MAX;
 
-// The numbers of the read and of the write that fail, and how many bytes the sink has room for.
+// The numbers of the read and of the write that fail and of the start that is refused, and how many bytes the sink has
+// room for.
 #[derive(Clone, Copy)]
 struct Faults {
     read: u64,
     write: u64,
+    start: u64,
     room: usize,
 }
 
@@ -26,6 +31,7 @@ fn fails(read: u64, write: u64) -> Faults {
     Faults {
         read,
         write,
+        start: NEVER,
         room: 4096,
     }
 }
@@ -66,42 +72,21 @@ pub(crate) fn sink_of(alloc: Global, room: usize, write: u64) -> Result<MemorySi
     }
 }
 
-/// What a run has: the words of its command line, its source and its sink.
+// A spawner whose start of this number is refused.
+fn spawner_of(alloc: Global, start: u64) -> Result<ScriptSpawner, AllocError> {
+    match vec![in alloc; start] {
+        Ok(refused) => ScriptSpawner::new(alloc, refused),
+        Err(_) => Err(AllocError),
+    }
+}
+
+/// What a run has: the words of its command line, its source, its sink and its spawner.
 #[derive(Drop)]
 struct Parts {
     said: Vec<Octets>,
     source: MemorySource,
     sink: MemorySink,
-}
-
-fn with_sink(
-    said: Vec<Octets>,
-    source: MemorySource,
-    sink: Result<MemorySink, AllocError>,
-) -> Result<Parts, AllocError> {
-    match sink {
-        Ok(sink) => Ok(Parts { said, source, sink }),
-        Err(error) => {
-            drop(said);
-            drop(source);
-            Err(error)
-        }
-    }
-}
-
-fn with_source(
-    said: Vec<Octets>,
-    source: Result<MemorySource, AllocError>,
-    sink: Result<MemorySink, AllocError>,
-) -> Result<Parts, AllocError> {
-    match source {
-        Ok(source) => with_sink(said, source, sink),
-        Err(error) => {
-            drop(said);
-            drop(sink);
-            Err(error)
-        }
-    }
+    spawner: ScriptSpawner,
 }
 
 /// A run, and how it ends: its status, and what the sink got where that is told.
@@ -115,16 +100,12 @@ struct Row<'a> {
 }
 
 fn parts_of(alloc: Global, row: Row) -> Result<Parts, AllocError> {
-    let source = source_of(alloc, row.script, row.faults.read);
-    let sink = sink_of(alloc, row.faults.room, row.faults.write);
-    match said(alloc, row.words) {
-        Ok(said) => with_source(said, source, sink),
-        Err(error) => {
-            drop(source);
-            drop(sink);
-            Err(error)
-        }
-    }
+    Ok(Parts {
+        said: said(alloc, row.words)?,
+        source: source_of(alloc, row.script, row.faults.read)?,
+        sink: sink_of(alloc, row.faults.room, row.faults.write)?,
+        spawner: spawner_of(alloc, row.faults.start)?,
+    })
 }
 
 fn is_got(got: &[u8], wanted: Option<&str>) -> bool {
@@ -149,12 +130,20 @@ fn is_end(row: Row, status: u8, got: &[u8]) -> Result<bool, AllocError> {
     Ok(status == row.status && is_got(got, row.got))
 }
 
-fn status_of<Ho: Host>(rt: &Ho, alloc: Global, parts: &mut Parts) -> u8 {
-    run(rt, alloc, &parts.said, &mut parts.source, &mut parts.sink)
+fn status_of<Ho: Host + 'static>(rt: &Ho, alloc: Global, parts: &mut Parts) -> u8 {
+    run(
+        rt,
+        alloc,
+        &parts.said,
+        &mut parts.source,
+        &mut parts.sink,
+        &mut StepClock::new(0, 1),
+        &mut parts.spawner,
+    )
 }
 
 // Whether the run ends as told.
-fn ends<Ho: Host + AllocGlobal>(rt: &Ho, row: Row) -> Result<bool, AllocError> {
+fn ends<Ho: Host + AllocGlobal + 'static>(rt: &Ho, row: Row) -> Result<bool, AllocError> {
     let alloc = rt.alloc();
     match parts_of(alloc, row) {
         Ok(mut parts) => {
@@ -168,7 +157,7 @@ fn ends<Ho: Host + AllocGlobal>(rt: &Ho, row: Row) -> Result<bool, AllocError> {
 }
 
 // Whether each run ends as told.
-fn all_end<Ho: Host + AllocGlobal>(rt: &Ho, rows: &[Row]) -> Result<bool, AllocError> {
+fn all_end<Ho: Host + AllocGlobal + 'static>(rt: &Ho, rows: &[Row]) -> Result<bool, AllocError> {
     for row in rows {
         if !ends(rt, *row)? {
             return Ok(false);
@@ -226,9 +215,35 @@ fn a_sink_with_too_little_room_gets_the_front_of_the_text(rt: HostRuntime) -> Re
     let ten = Faults {
         read: NEVER,
         write: NEVER,
+        start: NEVER,
         room: 10,
     };
     holds(&rt, ends(&rt, of_replay(ten, (6, "listener 0"))))
+}
+
+const NO_WORKER: &str = "no worker could be started\n";
+
+// The run whose start of this number is refused, and how it ends.
+fn of_start<'a>(start: u64, wanted: (u8, &'a str)) -> Row<'a> {
+    let faults = Faults {
+        read: NEVER,
+        write: NEVER,
+        start,
+        room: 4096,
+    };
+    of_replay(faults, wanted)
+}
+
+#[test]
+fn a_start_that_is_refused_is_told(rt: HostRuntime) -> Result<(), Fail> {
+    hold(
+        &rt,
+        &[
+            ends(&rt, of_start(0, (8, NO_WORKER))),
+            ends(&rt, of_start(1, (8, NO_WORKER))),
+            ends(&rt, of_start(2, (0, "listener 0 ended\nend drained\n"))),
+        ],
+    )
 }
 
 const GET: &[u8] =

@@ -10,9 +10,16 @@ use std::test::Fail;
 // Whether a script is good, has a listener or has none, as told, and has no connection.
 fn has_only_a_listener(reading: &Reading, listening: bool) -> bool {
     match reading {
-        Reading::Good(script) => script.listening == listening && script.connection.is_none(),
+        Reading::Good(script) => {
+            script.listeners.is_empty() != listening && connection_of(script).is_none()
+        }
         Reading::BadLine(_) => false,
     }
+}
+
+/// The first connection of a script's first listener.
+pub(crate) fn connection_of(script: &Script) -> Option<&Connection> {
+    script.listeners.first()?.connections().first()
 }
 
 // The same of a text.
@@ -59,7 +66,7 @@ fn gives(connection: &Connection, peer: Peer, bytes: &[u8]) -> bool {
 }
 
 fn has_connection(script: &Script, peer: Peer, bytes: &[u8]) -> bool {
-    match &script.connection {
+    match connection_of(script) {
         Some(connection) => gives(connection, peer, bytes),
         None => false,
     }

@@ -1,8 +1,9 @@
 //! What a script sets, and the steps of its connection.
+use crate::scripts::connection_of;
 use crate::shown::{hold, holds};
 use script::{
-    Connection, FinalStatus, Handler, Line, PlaceLine, Reading, Script, Settings, read_line,
-    read_script,
+    Coming, Connection, FinalStatus, Handler, Line, PlaceLine, Reading, Script, Settings,
+    read_line, read_script,
 };
 use server_run::{MemoryLink, ReadStep, WriteStep};
 use service_core::{Link, Peer};
@@ -82,6 +83,55 @@ fn a_script_sets_how_it_is_served(rt: HostRuntime) -> Result<(), Fail> {
     )
 }
 
+fn is_server(reading: &Reading, workers: usize, ring: usize, retry: u64, limit: u64) -> bool {
+    match reading {
+        Reading::Good(script) => {
+            script.settings.workers == workers
+                && script.settings.ring == ring
+                && script.settings.retry_limit == retry
+                && script.settings.limit == limit
+        }
+        Reading::BadLine(_) => false,
+    }
+}
+
+// Whether a script sets the server so: its workers, their rings, failures in a row, and connections at once.
+fn sets_server(
+    alloc: Global,
+    text: &str,
+    wanted: (usize, usize, u64, u64),
+) -> Result<bool, AllocError> {
+    match read_script(alloc, text.as_bytes()) {
+        Ok(reading) => {
+            let shown = is_server(&reading, wanted.0, wanted.1, wanted.2, wanted.3);
+            drop(reading);
+            Ok(shown)
+        }
+        Err(error) => Err(error),
+    }
+}
+
+#[test]
+fn a_script_sets_the_server(rt: HostRuntime) -> Result<(), Fail> {
+    let alloc = rt.alloc();
+    hold(
+        &rt,
+        &[
+            sets_server(alloc, "", (2, 128, 8, 25_600)),
+            sets_server(
+                alloc,
+                "workers 512\nring 4096\nretry 1000\nlimit 1000000",
+                (512, 4096, 1000, 1_000_000),
+            ),
+            sets_server(
+                alloc,
+                "workers 9\nworkers 1\nring 1\nretry 1\nlimit 1\nlistener",
+                (1, 1, 1, 1),
+            ),
+        ],
+    )
+}
+
 fn is_code(code: u16, wanted: Option<u16>) -> bool {
     match FinalStatus::new(code) {
         Some(status) => wanted == Some(status.code()),
@@ -131,7 +181,16 @@ fn all_stop(alloc: Global, texts: &[&str]) -> Result<bool, AllocError> {
     Ok(true)
 }
 
-const OUT_OF_RANGE: [&str; 12] = [
+const OUT_OF_RANGE: [&str; 21] = [
+    "workers 0",
+    "workers 513",
+    "ring 0",
+    "ring 4097",
+    "retry 0",
+    "retry 1001",
+    "limit 0",
+    "limit 1000001",
+    "late",
     "head 0",
     "head 65536",
     "head 01",
@@ -155,6 +214,7 @@ fn a_number_out_of_its_range_is_a_bad_line(rt: HostRuntime) -> Result<(), Fail> 
             all_stop(alloc, &OUT_OF_RANGE),
             stops(alloc, "listener\nhead 1", 2),
             stops(alloc, "listener\ntake 1", 2),
+            stops(alloc, "listener\nconn local\nlistener\ngive a", 4),
             stops(alloc, "listener\nconn local\ntake 0", 3),
             stops(alloc, "listener\nconn local\nwait 1", 3),
         ],
@@ -191,7 +251,7 @@ fn goes_by(connection: &Connection) -> bool {
 
 fn has_steps(reading: &Reading) -> bool {
     match reading {
-        Reading::Good(script) => match &script.connection {
+        Reading::Good(script) => match connection_of(script) {
             Some(connection) => goes_by(connection),
             None => false,
         },
@@ -213,6 +273,70 @@ fn reads_steps(alloc: Global) -> Result<bool, AllocError> {
 #[test]
 fn a_connection_goes_by_its_lines(rt: HostRuntime) -> Result<(), Fail> {
     holds(&rt, reads_steps(rt.alloc()))
+}
+
+const LISTENERS: &[u8] =
+    b"listener\nlate\nconn local\nskip\ngive a\nconn local\nfail-listener\nlistener\nlistener\nconn local";
+
+fn comes(script: &Script) -> bool {
+    match script.listeners.as_slice() {
+        [first, second, third] => {
+            first.comings()
+                == [
+                    Coming::Late,
+                    Coming::Connection,
+                    Coming::Skip,
+                    Coming::Connection,
+                    Coming::Failure,
+                ]
+                .as_slice()
+                && first.connections().len() == 2
+                && second.comings().is_empty()
+                && third.comings() == [Coming::Connection].as_slice()
+        }
+        _ => false,
+    }
+}
+
+fn has_listeners(reading: &Reading) -> bool {
+    match reading {
+        Reading::Good(script) => comes(script),
+        Reading::BadLine(_) => false,
+    }
+}
+
+fn reads_listeners(alloc: Global) -> Result<bool, AllocError> {
+    match read_script(alloc, LISTENERS) {
+        Ok(reading) => {
+            let shown = has_listeners(&reading);
+            drop(reading);
+            Ok(shown)
+        }
+        Err(error) => Err(error),
+    }
+}
+
+#[test]
+fn listeners_answer_what_their_lines_say(rt: HostRuntime) -> Result<(), Fail> {
+    holds(&rt, reads_listeners(rt.alloc()))
+}
+
+// Whether the line behind so many listeners is the first bad one, where it is a listener's.
+fn one_more_than(alloc: Global, most: usize) -> Result<bool, AllocError> {
+    let mut text = String::new(alloc);
+    for _ in 0..most {
+        text.push_str("listener\n")?;
+    }
+    let good = stops(alloc, &text, 1);
+    text.push_str("listener\n")?;
+    let bad = stops(alloc, &text, most.saturating_add(1));
+    drop(text);
+    Ok(!good? && bad?)
+}
+
+#[test]
+fn a_script_has_64_listeners_at_the_most(rt: HostRuntime) -> Result<(), Fail> {
+    holds(&rt, one_more_than(rt.alloc(), 64))
 }
 
 fn is_wait(said: &Option<Line>) -> bool {
@@ -242,7 +366,7 @@ fn a_line_is_read_alone(rt: HostRuntime) -> Result<(), Fail> {
 fn listens(alloc: Global) -> Result<bool, AllocError> {
     let mut script = Script::new(alloc);
     let taken = script.push(alloc, Line::Place(PlaceLine::Listener));
-    let listening = script.listening;
+    let listening = !script.listeners.is_empty();
     drop(script);
     match taken {
         Ok(taken) => Ok(taken && listening),

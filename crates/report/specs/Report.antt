@@ -1,6 +1,6 @@
 -- The text of a report.
-use Rattle.std.specs.Prelude.{ℕ, ◌+◌, ◌/◌, ◌%◌, ◌==◌, ◌&&◌, nat_le, if◌then◌else◌, List, [], ◌∷◌, ◌++◌, codes, decimal}
-use Rattle.std.specs.List.{flat_map}
+use Rattle.std.specs.Prelude.{◌≡◌, ℕ, zero, suc, ◌+◌, ◌/◌, ◌%◌, ◌==◌, ◌&&◌, nat_le, nat_lt, if◌then◌else◌, length, List, [], ◌∷◌, ◌++◌, codes, decimal, IsPermutation, IsSortedBy}
+use Rattle.std.specs.List.{filter, flat_map}
 use Rattle.server_run.specs.declared.entry.Entry.{Entry}
 use Rattle.server_run.specs.declared.outcome.Outcome.{Outcome}
 use Rattle.server_run.specs.declared.outcome.Outcome.TheVariants.{Served, ReadFault, WriteFault, Upgraded, Memory}
@@ -53,6 +53,22 @@ abbrev pub end_line : End → List ℕ
 end_line Drained = codes "end drained" ++ 10 ∷ []
 end_line NoRoom = codes "end memory" ++ 10 ∷ []
 
--- a line for each connection, one for each listener, and the end
-abbrev pub report_of : List (Entry MemoryLink) → Report → List ℕ
-report_of entries report = flat_map entry_line entries ++ (state_lines 0 report.listeners.items ++ end_line report.end)
+-- the entries of this listener, in the order of these
+abbrev pub entries_of : ℕ → List (Entry MemoryLink) → List (Entry MemoryLink)
+entries_of token entries = filter (λ (entry : Entry MemoryLink). entry.token == token) entries
+
+-- the lines of the entries of so many listeners, from this token on, listener by listener
+abbrev pub entry_lines : ℕ → ℕ → List (Entry MemoryLink) → List ℕ
+entry_lines token zero entries = []
+entry_lines token (suc count) entries = flat_map entry_line (entries_of token entries) ++ entry_lines (token + 1) count entries
+
+-- no entry has a lower place than the one before it
+abbrev pub IsByPlace : List (Entry MemoryLink) → Type 0
+IsByPlace entries = IsSortedBy (λ (x y : Entry MemoryLink). nat_lt x.place y.place) entries
+
+-- The text of a report: a line for each connection, by token and then by place, one for each listener, and the end.
+pub record IsText (entries : List (Entry MemoryLink)) (report : Report) (text : List ℕ) : Type 0 where
+  pub ordered : List (Entry MemoryLink)
+  pub same : IsPermutation entries ordered
+  pub by_place : IsByPlace ordered
+  pub is : text ≡ entry_lines 0 (length report.listeners.items) ordered ++ (state_lines 0 report.listeners.items ++ end_line report.end)

@@ -1,6 +1,7 @@
 //! The text of a report, and of the peers in it.
 #![tactic(auto)]
 
+mod entries;
 mod hex;
 mod peer_words;
 mod report;

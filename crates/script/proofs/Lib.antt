@@ -3,6 +3,7 @@ pub mod Cutting
 pub mod Counted
 pub mod Lines
 pub mod Numbers
+pub mod Offered
 pub mod OneWord
 pub mod Texts
 pub mod Plainness

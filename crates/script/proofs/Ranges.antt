@@ -9,11 +9,11 @@ use Rattle.script.specs.Numbers.{IsWithin, decimal_from, is_decimal, number_behi
 use Rattle.service_core.specs.declared.peer.Peer.{Peer}
 use Rattle.script.specs.PolicyText.{policy_line, some_text}
 use Rattle.script.specs.Ranges.{IsInRange, IsPlaceInRange, IsSettingInRange}
-use Rattle.script.specs.Script.{bare_line, bare_setting, body_line, conn_line, cut_line, handler_line, head_line, peer_of, place_line, setting_line, some_bytes, take_line, text_bytes, told_by}
+use Rattle.script.specs.Script.{bare_line, bare_setting, body_line, conn_line, cut_line, handler_line, head_line, peer_of, place_line, retry_line, ring_line, server_line, setting_line, some_bytes, take_line, text_bytes, told_by, workers_line}
 use Rattle.script.specs.declared.line.Line.{Line}
 use Rattle.script.specs.declared.line.Line.TheVariants.{Setting, Policy, Place}
-use Rattle.script.specs.declared.place.place_line.PlaceLine.TheVariants.{Listener, Conn, Give, Wait, Take, WriteWait, FailRead, FailWrite}
-use Rattle.script.specs.declared.setting.setting_line.SettingLine.TheVariants.{Head, Body, Cut, Handle, KeepAliveOff, ExpectRefuse, UpgradeEcho}
+use Rattle.script.specs.declared.place.place_line.PlaceLine.TheVariants.{Listener, Conn, Late, Skip, FailListener, Give, Wait, Take, WriteWait, FailRead, FailWrite}
+use Rattle.script.specs.declared.setting.setting_line.SettingLine.TheVariants.{Workers, Ring, Retry, Limit, Head, Body, Cut, Handle, KeepAliveOff, ExpectRefuse, UpgradeEcho}
 
 -- what holds of the value of each option holds of the first that has one
 either : {A : Type 0} (P : A → Type 0) (a b : Option A) → IfSome a P → IfSome b P → IfSome (option_or a b) P
@@ -54,21 +54,32 @@ bare_settings_are line =
     (tested IsSettingInRange (bytes_eq line (codes "expect refuse")) (Some ExpectRefuse) _ tt
     (tested IsSettingInRange (bytes_eq line (codes "upgrade echo")) (Some UpgradeEcho) None tt tt))
 
+servers_are : (line : List ℕ) → IfSome (server_line line) IsSettingInRange
+servers_are line =
+    either IsSettingInRange (workers_line line) _ (mapped IsSettingInRange Workers _ (behind_is (codes "workers ") 1 512 line))
+    (either IsSettingInRange (ring_line line) _ (mapped IsSettingInRange Ring _ (behind_is (codes "ring ") 1 4096 line))
+    (either IsSettingInRange (retry_line line) _ (mapped IsSettingInRange Retry _ (behind_is (codes "retry ") 1 1000 line))
+    (mapped IsSettingInRange Limit _ (behind_is (codes "limit ") 1 1000000 line))))
+
 settings_are : (line : List ℕ) → IfSome (setting_line line) IsSettingInRange
 settings_are line =
-    either IsSettingInRange (head_line line) _ (mapped IsSettingInRange Head _ (behind_is (codes "head ") 1 65535 line))
+    either IsSettingInRange (server_line line) _ (servers_are line)
+    (either IsSettingInRange (head_line line) _ (mapped IsSettingInRange Head _ (behind_is (codes "head ") 1 65535 line))
     (either IsSettingInRange (body_line line) _ (mapped IsSettingInRange Body _ (behind_is (codes "body ") 1 16777216 line))
     (either IsSettingInRange (cut_line line) _ (mapped IsSettingInRange Cut _ (behind_is (codes "cut ") 1 65536 line))
     (either IsSettingInRange (bare_setting line) _ (bare_settings_are line)
-    (mapped IsSettingInRange Handle (handler_line line) (each (λ _. ⊤) (λ _. tt) (handler_line line))))))
+    (mapped IsSettingInRange Handle (handler_line line) (each (λ _. ⊤) (λ _. tt) (handler_line line)))))))
 
 bare_are : (line : List ℕ) → IfSome (bare_line line) IsPlaceInRange
 bare_are line =
     tested IsPlaceInRange (bytes_eq line (codes "listener")) (Some Listener) _ tt
+    (tested IsPlaceInRange (bytes_eq line (codes "late")) (Some Late) _ tt
+    (tested IsPlaceInRange (bytes_eq line (codes "skip")) (Some Skip) _ tt
+    (tested IsPlaceInRange (bytes_eq line (codes "fail-listener")) (Some FailListener) _ tt
     (tested IsPlaceInRange (bytes_eq line (codes "wait")) (Some Wait) _ tt
     (tested IsPlaceInRange (bytes_eq line (codes "write-wait")) (Some WriteWait) _ tt
     (tested IsPlaceInRange (bytes_eq line (codes "fail-read")) (Some FailRead) _ tt
-    (tested IsPlaceInRange (bytes_eq line (codes "fail-write")) (Some FailWrite) None tt tt))))
+    (tested IsPlaceInRange (bytes_eq line (codes "fail-write")) (Some FailWrite) None tt tt)))))))
 
 unbounded_conn : (peer : Option Peer) → IfSome (option_map Conn peer) IsPlaceInRange
 unbounded_conn None = tt

@@ -1,5 +1,6 @@
 pub mod Rules
 pub mod Numbers
+pub mod Offering
 pub mod PolicyText
 pub mod Plain
 pub mod Plan

@@ -17,8 +17,11 @@ plan script = record {
   keeps_alive = script.settings.keeps_alive;
   refuses_expectations = script.settings.refuses_expectations;
   echoes_upgrades = script.settings.echoes_upgrades;
-  listening = script.listening;
-  connection = script.connection;
+  workers = script.settings.workers;
+  ring = script.settings.ring;
+  retry_limit = script.settings.retry_limit;
+  limit = script.settings.limit;
+  listeners = script.listeners.items;
 }
 
 abbrev pub reading_of : Reading → Result Plan ℕ

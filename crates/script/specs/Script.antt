@@ -1,5 +1,5 @@
 -- The grammar of a script, and the plan that its lines make.
-use Rattle.std.specs.Prelude.{ℕ, ◌+◌, ◌*◌, ◌-◌, ◌^◌, ◌==◌, ◌&&◌, ◌||◌, nat_le, nat_lt, nat_eq, not, Bool, true, false, if◌then◌else◌, List, [], ◌∷◌, length, drop, Option, Some, None, is_none, Result, Ok, Err, codes}
+use Rattle.std.specs.Prelude.{ℕ, ◌+◌, ◌*◌, ◌-◌, ◌^◌, ◌==◌, ◌&&◌, ◌||◌, nat_le, nat_lt, nat_eq, not, Bool, true, false, if◌then◌else◌, List, [], ◌∷◌, ◌++◌, length, drop, sum_by, Option, Some, None, Result, Ok, Err, codes}
 use Rattle.std.specs.List.{slice_split, starts_with, list_all, position_or_len, before_first, after_first}
 use Rattle.std.specs.Str.{bytes_eq}
 use Rattle.std.specs.Option.{option_map, option_and_then, option_map_or, option_or}
@@ -13,18 +13,20 @@ use Rattle.server_run.specs.declared.write_step.WriteStep.{WriteStep}
 use Rattle.server_run.specs.declared.write_step.WriteStep.TheVariants.{Take as Takes, NotYet as WritesNotYet, Fail as WriteFails}
 use Rattle.script.specs.Numbers.{number_behind, number_to}
 use Rattle.script.specs.Plain.{is_plain}
-use Rattle.script.specs.Planned.{Planned, and_reads, and_writes, gives, no_steps}
+use Rattle.script.specs.Planned.{Listening, Planned, and_coming, and_connection, and_reads, and_writes, at_last, at_last_connection, gives, nothing_comes}
 use Rattle.script.specs.PolicyText.{and_line, is_permissive, policy_line, some_text}
+use Rattle.script.specs.declared.coming.Coming.{Coming}
+use Rattle.script.specs.declared.coming.Coming.TheVariants as coming
 use Rattle.script.specs.declared.handler.Handler.{Handler}
 use Rattle.script.specs.declared.handler.Handler.TheVariants as handlers
 use Rattle.script.specs.declared.line.Line.{Line}
 use Rattle.script.specs.declared.line.Line.TheVariants.{Skip, Setting, Policy, Place}
 use Rattle.script.specs.declared.place.place_line.PlaceLine.{PlaceLine}
-use Rattle.script.specs.declared.place.place_line.PlaceLine.TheVariants.{Listener, Conn, Give, Wait, Take, WriteWait, FailRead, FailWrite}
+use Rattle.script.specs.declared.place.place_line.PlaceLine.TheVariants.{Listener, Conn, Late, Skip as Skips, FailListener, Give, Wait, Take, WriteWait, FailRead, FailWrite}
 use Rattle.script.specs.declared.policy.policy_line.PolicyLine.{PolicyLine}
 use Rattle.script.specs.declared.policy.script_rule.ScriptRule.{ScriptRule}
 use Rattle.script.specs.declared.setting.setting_line.SettingLine.{SettingLine}
-use Rattle.script.specs.declared.setting.setting_line.SettingLine.TheVariants.{Head, Body, Cut, Handle, KeepAliveOff, ExpectRefuse, UpgradeEcho}
+use Rattle.script.specs.declared.setting.setting_line.SettingLine.TheVariants.{Workers, Ring, Retry, Limit, Head, Body, Cut, Handle, KeepAliveOff, ExpectRefuse, UpgradeEcho}
 
 -- ---- the text of a `give` line
 
@@ -91,6 +93,23 @@ peer_of text = if bytes_eq text (codes "local") then Some Local else v4_of text
 
 -- ---- lines
 
+-- how many workers there are, how many places a ring has, how often a listener may fail in a row, and how many connections a worker
+-- has at once at the most
+abbrev pub workers_line : List ℕ → Option SettingLine
+workers_line line = option_map Workers (number_behind (codes "workers ") 1 512 line)
+
+abbrev pub ring_line : List ℕ → Option SettingLine
+ring_line line = option_map Ring (number_behind (codes "ring ") 1 4096 line)
+
+abbrev pub retry_line : List ℕ → Option SettingLine
+retry_line line = option_map Retry (number_behind (codes "retry ") 1 1000 line)
+
+abbrev pub limit_line : List ℕ → Option SettingLine
+limit_line line = option_map Limit (number_behind (codes "limit ") 1 1000000 line)
+
+abbrev pub server_line : List ℕ → Option SettingLine
+server_line line = option_or (workers_line line) (option_or (ring_line line) (option_or (retry_line line) (limit_line line)))
+
 -- how many bytes of a head are read, and of a body, and how many bytes a piece of what is given has at the most
 abbrev pub head_line : List ℕ → Option SettingLine
 head_line line = option_map Head (number_behind (codes "head ") 1 65535 line)
@@ -124,13 +143,17 @@ bare_setting line =
 
 abbrev pub setting_line : List ℕ → Option SettingLine
 setting_line line =
-    option_or (head_line line) (option_or (body_line line) (option_or (cut_line line)
-    (option_or (bare_setting line) (option_map Handle (handler_line line)))))
+    option_or (server_line line) (option_or (head_line line) (option_or (body_line line) (option_or (cut_line line)
+    (option_or (bare_setting line) (option_map Handle (handler_line line))))))
 
--- a listener; a read that is pending once, and such a write; a read that fails, and such a write
+-- a listener; a time at which nothing has come to it, a connection that was lost, a failure of its own; a read that is pending once,
+-- and such a write; a read that fails, and such a write
 abbrev pub bare_line : List ℕ → Option PlaceLine
 bare_line line =
     if bytes_eq line (codes "listener") then Some Listener
+    else if bytes_eq line (codes "late") then Some Late
+    else if bytes_eq line (codes "skip") then Some Skips
+    else if bytes_eq line (codes "fail-listener") then Some FailListener
     else if bytes_eq line (codes "wait") then Some Wait
     else if bytes_eq line (codes "write-wait") then Some WriteWait
     else if bytes_eq line (codes "fail-read") then Some FailRead
@@ -169,9 +192,9 @@ line_of line =
 
 -- ---- the plan
 
--- the builder of the policy and whether a line spoke of it, the handler, the limits of its connection in bytes and of a
--- piece of what that gives, whether it stays open behind a response, whether expectations are refused and upgrades echoed,
--- whether there is a listener, and its connection
+-- the builder of the policy and whether a line spoke of it, the handler, the limits of its connections in bytes and of a
+-- piece of what they give, whether they stay open behind a response, whether expectations are refused and upgrades echoed,
+-- what the server is set to, and its listeners
 pub record Plan : Type 0 where
   pub cors : Builder ScriptRule
   pub has_policy : Bool
@@ -181,8 +204,11 @@ pub record Plan : Type 0 where
   pub keeps_alive : Bool
   pub refuses_expectations : Bool
   pub echoes_upgrades : Bool
-  pub listening : Bool
-  pub connection : Option Planned
+  pub workers : ℕ
+  pub ring : ℕ
+  pub retry_limit : ℕ
+  pub limit : ℕ
+  pub listeners : List Listening
 
 abbrev pub default_limits : Limits
 default_limits = record { head = 32768; body = 1048576 }
@@ -197,12 +223,27 @@ nothing_yet = record {
   keeps_alive = true;
   refuses_expectations = false;
   echoes_upgrades = false;
-  listening = false;
-  connection = None;
+  workers = 2;
+  ring = 128;
+  retry_limit = 8;
+  limit = 25600;
+  listeners = [];
 }
+
+-- there is a listener
+abbrev pub is_listening : Plan → Bool
+is_listening plan = not (length plan.listeners == 0)
+
+-- how many connections there are
+abbrev pub connection_count : Plan → ℕ
+connection_count plan = sum_by (λ (listener : Listening). length listener.connections) plan.listeners
 
 -- what a line sets; a later line takes the place of an earlier one
 abbrev pub and_setting : Plan → SettingLine → Plan
+and_setting plan (Workers count) = record plan { workers = count }
+and_setting plan (Ring places) = record plan { ring = places }
+and_setting plan (Retry most) = record plan { retry_limit = most }
+and_setting plan (Limit most) = record plan { limit = most }
 and_setting plan (Head size) = record plan { limits = record { head = size; body = plan.limits.body } }
 and_setting plan (Body size) = record plan { limits = record { head = plan.limits.head; body = size } }
 and_setting plan (Cut size) = record plan { cut = size }
@@ -211,37 +252,53 @@ and_setting plan KeepAliveOff = record plan { keeps_alive = false }
 and_setting plan ExpectRefuse = record plan { refuses_expectations = true }
 and_setting plan UpgradeEcho = record plan { echoes_upgrades = true }
 
--- what is set before the listener
+-- what is set before the first listener
 abbrev pub with_setting : Plan → SettingLine → Option Plan
-with_setting plan line = if plan.listening then None else Some (and_setting plan line)
+with_setting plan line = if is_listening plan then None else Some (and_setting plan line)
 
--- one more policy line, which stands before the listener; one that allows everything stands before every other
+-- one more policy line, which stands before the first listener; one that allows everything stands before every other
 abbrev pub with_policy : Plan → PolicyLine → Option Plan
 with_policy plan line =
-    if plan.listening || (is_permissive line && plan.has_policy) then None
+    if is_listening plan || (is_permissive line && plan.has_policy) then None
     else Some (record plan { cors = and_line plan.cors line; has_policy = true })
 
+-- one more listener, of 64 at the most
 abbrev pub with_listener : Plan → Option Plan
-with_listener plan = if plan.listening then None else Some (record plan { listening = true })
+with_listener plan = if nat_lt (length plan.listeners) 64 then Some (record plan { listeners = plan.listeners ++ nothing_comes ∷ [] }) else None
 
+-- the last listener is changed, and the last connection of that
+abbrev pub at_listener : Plan → (Listening → Option Listening) → Option Plan
+at_listener plan change = option_map (λ listeners. record plan { listeners = listeners }) (at_last change plan.listeners)
+
+abbrev pub at_connection : Plan → (Planned → Planned) → Option Plan
+at_connection plan change = at_listener plan (at_last_connection change)
+
+-- one more connection of the last listener, of 100,000 in all at the most
 abbrev pub with_connection : Plan → Peer → Option Plan
-with_connection plan peer = if plan.listening && is_none plan.connection then Some (record plan { connection = Some (no_steps peer) }) else None
+with_connection plan peer = if nat_lt (connection_count plan) 100000 then at_listener plan (λ listener. Some (and_connection listener peer)) else None
 
--- bytes that the connection gives, piece by piece
+-- another answer of the last listener
+abbrev pub with_coming : Plan → Coming → Option Plan
+with_coming plan answer = at_listener plan (λ listener. Some (and_coming listener answer))
+
+-- bytes that the last connection gives, piece by piece
 abbrev pub with_bytes : Plan → List ℕ → Option Plan
-with_bytes plan bytes = option_map (λ c. record plan { connection = Some (and_reads c (gives plan.cut bytes)) }) plan.connection
+with_bytes plan bytes = at_connection plan (λ connection. and_reads connection (gives plan.cut bytes))
 
 -- a step of its reads
 abbrev pub with_read : Plan → ReadStep → Option Plan
-with_read plan step = option_map (λ c. record plan { connection = Some (and_reads c (step ∷ [])) }) plan.connection
+with_read plan step = at_connection plan (λ connection. and_reads connection (step ∷ []))
 
 -- a step of its writes
 abbrev pub with_write : Plan → WriteStep → Option Plan
-with_write plan step = option_map (λ c. record plan { connection = Some (and_writes c (step ∷ [])) }) plan.connection
+with_write plan step = at_connection plan (λ connection. and_writes connection (step ∷ []))
 
 abbrev pub with_place : Plan → PlaceLine → Option Plan
 with_place plan Listener = with_listener plan
 with_place plan (Conn peer) = with_connection plan peer
+with_place plan Late = with_coming plan coming.Late
+with_place plan Skips = with_coming plan coming.Skip
+with_place plan FailListener = with_coming plan coming.Failure
 with_place plan (Give bytes) = with_bytes plan bytes
 with_place plan Wait = with_read plan NotYet
 with_place plan (Take most) = with_write plan (Takes most)

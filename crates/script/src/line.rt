@@ -15,11 +15,11 @@ use std::alloc::{AllocError, Global};
 pub enum Line {
     /// Nothing: it is empty, or a comment.
     Skip,
-    /// How connections are served.
+    /// How connections are served, and by what.
     Setting(SettingLine),
     /// What it says of the policy.
     Policy(PolicyLine),
-    /// What is given: a listener, its connection, and what that does.
+    /// What is given: listeners, their connections, and what these do.
     Place(PlaceLine),
 }
 

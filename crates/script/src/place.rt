@@ -1,4 +1,4 @@
-//! The lines of a script's listener and its connection.
+//! The lines of a script's listeners and their connections.
 
 mod place_line;
 mod place_text;

@@ -1,35 +1,43 @@
 //! A script, and what it asks for.
-ghost use Rattle.std.specs.Prelude.{◌≡◌, ◌&&◌, ◌||◌, if◌then◌else◌, false, [], IfOk, Option, OnErr, Some, None};
+ghost use Rattle.std.specs.Prelude.{◌≡◌, ◌≤◌, ◌&&◌, ◌||◌, if◌then◌else◌, false, [], length, IfOk, Option, OnErr, Some, None};
 ghost use Rattle.server_run.specs.Steps.{TakesSome, bytes_of};
-ghost use Rattle.script.specs.Plan.{plan};
+ghost use Rattle.script.specs.Planned.{is_connection};
 ghost use Rattle.script.specs.PolicyText.{is_permissive};
 ghost use Rattle.script.specs.Ranges.{IsInRange, IsPlaceInRange, IsSettingInRange};
-ghost use Rattle.script.specs.Script.{and_setting, nothing_yet, with_bytes, with_connection, with_line, with_listener, with_place, with_policy, with_read, with_setting, with_write};
+ghost use Rattle.script.specs.Script.{and_setting, connection_count, is_listening, nothing_yet, with_bytes, with_coming, with_connection, with_line, with_listener, with_place, with_policy, with_read, with_setting, with_write};
 
-use crate::connection::Connection;
+use crate::coming::Coming;
 use crate::line::Line;
 use crate::place::PlaceLine;
 use crate::policy::PolicyLine;
+use crate::script_listener::ScriptListener;
 use crate::setting::{SettingLine, Settings};
 use http1_plain::Limits;
 use server_run::{ReadStep, WriteStep};
 use service_core::{Octets, Peer};
 use std::alloc::{AllocError, Global};
 
+/// How many listeners a script has at the most.
+const MAX_LISTENERS: usize = 64;
+
+/// How many connections a script has at the most, of all its listeners together.
+const MAX_CONNECTIONS: usize = 100_000;
+
 /// What the lines of a script ask for.
 #[derive(Drop)]
 pub struct Script {
     /// What it says of the policy, line by line.
     pub policy: Vec<PolicyLine>,
-    /// How its connection is served.
+    /// How its connections are served, and by what.
     pub settings: Settings,
-    /// There is a listener.
-    pub listening: bool,
-    /// The connection that comes to it.
-    pub connection: Option<Connection>,
+    /// Its listeners in order, 64 at the most.
+    pub listeners: Vec<ScriptListener>,
+    ghost few: { length listeners.items ≤ 64 },
 }
 
 impl Script {
+    ghost use Rattle.script.specs.Plan.{plan};
+
     /// A script that asks for nothing yet.
     pub fn new(alloc: Global) -> Script
         ensures { plan result ≡ nothing_yet }
@@ -37,8 +45,7 @@ impl Script {
         Script {
             policy: Vec::new(alloc),
             settings: Settings::new(),
-            listening: false,
-            connection: None,
+            listeners: Vec::new(alloc),
         }
     }
 
@@ -63,7 +70,7 @@ impl Script {
         ensures taken { (if result then Some (plan self.new) else None) ≡ with_setting (plan self.old) line }
         ensures refused { result ≡ false → plan self.new ≡ plan self.old }
     {
-        if self.listening {
+        if self.is_listening() {
             return false;
         }
         self.set(line);
@@ -74,36 +81,34 @@ impl Script {
         requires { IsSettingInRange line }
         ensures { plan self.new ≡ and_setting (plan self.old) line }
     {
+        let settings = &mut self.settings;
         match line {
-            SettingLine::Head(size) => {
-                self.settings.limits = Limits::new(size, self.settings.limits.body());
-            }
-            SettingLine::Body(size) => {
-                self.settings.limits = Limits::new(self.settings.limits.head(), size);
-            }
-            SettingLine::Cut(size) => {
-                self.settings.cut = size;
-            }
-            SettingLine::Handle(handler) => {
-                self.settings.handler = handler;
-            }
-            SettingLine::KeepAliveOff => {
-                self.settings.keeps_alive = false;
-            }
-            SettingLine::ExpectRefuse => {
-                self.settings.refuses_expectations = true;
-            }
-            SettingLine::UpgradeEcho => {
-                self.settings.echoes_upgrades = true;
-            }
+            SettingLine::Workers(count) => settings.workers = count,
+            SettingLine::Ring(places) => settings.ring = places,
+            SettingLine::Retry(most) => settings.retry_limit = most as u64,
+            SettingLine::Limit(most) => settings.limit = most as u64,
+            SettingLine::Head(size) => settings.limits = Limits::new(size, settings.limits.body()),
+            SettingLine::Body(size) => settings.limits = Limits::new(settings.limits.head(), size),
+            SettingLine::Cut(size) => settings.cut = size,
+            SettingLine::Handle(handler) => settings.handler = handler,
+            SettingLine::KeepAliveOff => settings.keeps_alive = false,
+            SettingLine::ExpectRefuse => settings.refuses_expectations = true,
+            SettingLine::UpgradeEcho => settings.echoes_upgrades = true,
         }
+    }
+
+    // Whether there is a listener.
+    fn is_listening(&self) -> bool
+        ensures { result ≡ is_listening (plan self.now) }
+    {
+        !self.listeners.is_empty()
     }
 
     // Whether the policy line can't stand here.
     fn refuses(&self, line: &PolicyLine) -> bool
-        ensures { result ≡ ((plan self.now).listening || (is_permissive line.now && (plan self.now).has_policy)) }
+        ensures { result ≡ (is_listening (plan self.now) || (is_permissive line.now && (plan self.now).has_policy)) }
     {
-        self.listening || (line.is_permissive() && !self.policy.as_slice().is_empty())
+        self.is_listening() || (line.is_permissive() && !self.policy.as_slice().is_empty())
     }
 
     #[tactic(auto, using(crate::proofs::Building::one_line_more))]
@@ -126,8 +131,11 @@ impl Script {
         ensures err { OnErr result (plan self.new ≡ plan self.old) }
     {
         match line {
-            PlaceLine::Listener => Ok(self.push_listener()),
-            PlaceLine::Conn(peer) => Ok(self.push_connection(alloc, peer)),
+            PlaceLine::Listener => self.push_listener(alloc),
+            PlaceLine::Conn(peer) => self.push_connection(alloc, peer),
+            PlaceLine::Late => self.push_coming(Coming::Late),
+            PlaceLine::Skip => self.push_coming(Coming::Skip),
+            PlaceLine::FailListener => self.push_coming(Coming::Failure),
             PlaceLine::Give(bytes) => self.push_bytes(alloc, &bytes),
             PlaceLine::Wait => self.push_read(ReadStep::NotYet),
             PlaceLine::Take(most) => self.push_write(WriteStep::Take(most)),
@@ -137,26 +145,55 @@ impl Script {
         }
     }
 
-    fn push_listener(&mut self) -> bool
-        ensures taken { (if result then Some (plan self.new) else None) ≡ with_listener (plan self.old) }
-        ensures refused { result ≡ false → plan self.new ≡ plan self.old }
+    fn push_listener(&mut self, alloc: Global) -> Result<bool, AllocError>
+        ensures taken { IfOk result (λ taken. (if taken then Some (plan self.new) else None) ≡ with_listener (plan self.old)) }
+        ensures refused { IfOk result (λ taken. taken ≡ false → plan self.new ≡ plan self.old) }
+        ensures err { OnErr result (plan self.new ≡ plan self.old) }
     {
-        if self.listening {
-            return false;
+        if self.listeners.len() >= MAX_LISTENERS {
+            return Ok(false);
         }
-        self.listening = true;
-        true
+        self.listeners.push(ScriptListener::new(alloc))?;
+        Ok(true)
     }
 
-    fn push_connection(&mut self, alloc: Global, peer: Peer) -> bool
-        ensures taken { (if result then Some (plan self.new) else None) ≡ with_connection (plan self.old) peer }
-        ensures refused { result ≡ false → plan self.new ≡ plan self.old }
+    // How many connections there are.
+    fn connection_count(&self) -> usize
+        ensures { result ≡ connection_count (plan self.now) }
     {
-        if !self.listening || self.connection.is_some() {
-            return false;
+        let mut count = 0;
+        for listener in &self.listeners {
+            count += listener.connections().len();
         }
-        self.connection = Some(Connection::new(alloc, peer));
-        true
+        count
+    }
+
+    fn push_connection(&mut self, alloc: Global, peer: Peer) -> Result<bool, AllocError>
+        ensures taken { IfOk result (λ taken. (if taken then Some (plan self.new) else None) ≡ with_connection (plan self.old) peer) }
+        ensures refused { IfOk result (λ taken. taken ≡ false → plan self.new ≡ plan self.old) }
+        ensures err { OnErr result (plan self.new ≡ plan self.old) }
+    {
+        if self.connection_count() >= MAX_CONNECTIONS {
+            return Ok(false);
+        }
+        let Some(listener) = self.listeners.last_mut() else {
+            return Ok(false);
+        };
+        listener.push_connection(alloc, peer)?;
+        Ok(true)
+    }
+
+    fn push_coming(&mut self, coming: Coming) -> Result<bool, AllocError>
+        requires { is_connection coming ≡ false }
+        ensures taken { IfOk result (λ taken. (if taken then Some (plan self.new) else None) ≡ with_coming (plan self.old) coming) }
+        ensures refused { IfOk result (λ taken. taken ≡ false → plan self.new ≡ plan self.old) }
+        ensures err { OnErr result (plan self.new ≡ plan self.old) }
+    {
+        let Some(listener) = self.listeners.last_mut() else {
+            return Ok(false);
+        };
+        listener.push_coming(coming)?;
+        Ok(true)
     }
 
     fn push_bytes(&mut self, alloc: Global, bytes: &Octets) -> Result<bool, AllocError>
@@ -164,13 +201,11 @@ impl Script {
         ensures refused { IfOk result (λ taken. taken ≡ false → plan self.new ≡ plan self.old) }
         ensures err { OnErr result (plan self.new ≡ plan self.old) }
     {
-        match &mut self.connection {
-            None => Ok(false),
-            Some(connection) => {
-                connection.push_bytes(alloc, self.settings.cut, bytes.as_bytes())?;
-                Ok(true)
-            }
-        }
+        let cut = self.settings.cut;
+        let Some(listener) = self.listeners.last_mut() else {
+            return Ok(false);
+        };
+        listener.push_bytes(alloc, cut, bytes.as_bytes())
     }
 
     fn push_read(&mut self, step: ReadStep) -> Result<bool, AllocError>
@@ -179,13 +214,10 @@ impl Script {
         ensures refused { IfOk result (λ taken. taken ≡ false → plan self.new ≡ plan self.old) }
         ensures err { OnErr result (plan self.new ≡ plan self.old) }
     {
-        match &mut self.connection {
-            None => Ok(false),
-            Some(connection) => {
-                connection.push_read(step)?;
-                Ok(true)
-            }
-        }
+        let Some(listener) = self.listeners.last_mut() else {
+            return Ok(false);
+        };
+        listener.push_read(step)
     }
 
     fn push_write(&mut self, step: WriteStep) -> Result<bool, AllocError>
@@ -194,12 +226,9 @@ impl Script {
         ensures refused { IfOk result (λ taken. taken ≡ false → plan self.new ≡ plan self.old) }
         ensures err { OnErr result (plan self.new ≡ plan self.old) }
     {
-        match &mut self.connection {
-            None => Ok(false),
-            Some(connection) => {
-                connection.push_write(step)?;
-                Ok(true)
-            }
-        }
+        let Some(listener) = self.listeners.last_mut() else {
+            return Ok(false);
+        };
+        listener.push_write(step)
     }
 }

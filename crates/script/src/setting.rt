@@ -1,4 +1,4 @@
-//! The lines that set how a script's connections are served.
+//! The lines that set how a script's connections are served, and by what.
 
 mod setting_line;
 mod setting_text;

@@ -18,6 +18,8 @@ const TOO_LONG: &[u8] = b"script is longer than 16777216 bytes\n";
 
 const NO_LISTENER: &[u8] = b"startup refused: no listener\n";
 
+const NO_WORKER: &[u8] = b"no worker could be started\n";
+
 /// Why the program writes no report.
 #[derive(Drop)]
 pub(crate) enum Refusal {
@@ -33,6 +35,8 @@ pub(crate) enum Refusal {
     NoListener,
     /// The policy is refused.
     Policy(ConfigError),
+    /// A worker could not be started.
+    NoWorker,
     /// Memory ran out.
     Memory,
 }
@@ -49,6 +53,7 @@ impl Refusal {
             Refusal::BadLine(number) => Ending::or_memory(3, bad_line(alloc, *number)),
             Refusal::NoListener => Ending::fixed(4, NO_LISTENER),
             Refusal::Policy(error) => Ending::or_memory(4, refused(alloc, *error)),
+            Refusal::NoWorker => Ending::fixed(8, NO_WORKER),
             Refusal::Memory => Ending::memory(),
         }
     }

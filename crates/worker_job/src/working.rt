@@ -16,13 +16,19 @@ use std::alloc::Global;
 use std::sync::Wait;
 use std::time::Clock;
 
+// So many turns with the same connections are made without a sleep but the last one's, which is all that a `Waiter` allows.
+const TURNS: u32 = 2_001;
+
 // Waits for what comes next, for a worker that held so many connections before its turn, and holds so many. Who started the job
-// is woken where something may have gone to him.
-fn rest<Ho: Wait + Clock>(waiter: &mut Waiter<Ho>, before: u64, now: u64) {
+// is woken where something may have gone to him. A worker that goes on with the same connections sleeps after 2,000 turns, and
+// then once in so many turns, so that a long connection isn't held up; `quiet` counts these.
+fn rest<Ho: Wait + Clock>(waiter: &mut Waiter<Ho>, before: u64, now: u64, quiet: &mut u32) {
     let moved = now != before;
-    if moved {
+    if moved || (now > 0 && *quiet >= TURNS) {
+        *quiet = 0;
         waiter.stirred();
     }
+    *quiet = quiet.saturating_add(1);
     if moved || now == 0 {
         waiter.ring();
     }
@@ -47,10 +53,13 @@ where
     ensures departs { Departs F.may_init worker.new result }
     ensures signals { TellsOfItself (Says (hand_of worker.old) (hand_of worker.new)) result }
 {
+    let mut quiet = 0;
     for _ in host.forever() {
         let before = worker.total();
         match worker.turn(cx) {
-            Turned::Going | Turned::Short => rest(waiter, before, worker.total()),
+            Turned::Going | Turned::Short => {
+                rest(waiter, before, worker.total(), &mut quiet);
+            }
             Turned::Left(_) => return Departure::Left,
             Turned::Unstarted { token, error } => {
                 worker.tell_fault();

@@ -1,13 +1,19 @@
-//! What a line of a script says of its listener and its connection.
+//! What a line of a script says of its listeners and their connections.
 use service_core::{Octets, Peer};
 
 /// One more thing that is given, as a line of a script asks for it.
 #[derive(Drop)]
 pub enum PlaceLine {
-    /// There is a listener.
+    /// There is one more listener.
     Listener,
-    /// A connection of this peer comes.
+    /// A connection of this peer comes to it.
     Conn(Peer),
+    /// The listener says once that no connection has come yet.
+    Late,
+    /// The listener loses a connection.
+    Skip,
+    /// The listener fails once.
+    FailListener,
     /// The connection gives these bytes.
     Give(Octets),
     /// Its next read is pending once.

@@ -1,4 +1,4 @@
-//! Reads the lines of a listener and its connection.
+//! Reads the lines of listeners and their connections.
 ghost use Rattle.std.specs.Prelude.{◌≡◌, IfOk};
 ghost use Rattle.script.specs.Script.{bare_line, conn_line, give_line, place_line, some_bytes, take_line};
 
@@ -6,7 +6,7 @@ use crate::place::PlaceLine;
 use crate::text::{number_behind, read_peer, unescaped};
 use std::alloc::{AllocError, Global};
 
-/// What a line says of the listener and its connection. None where it says nothing of them.
+/// What a line says of a listener or a connection. None where it says nothing of them.
 pub(crate) fn read_place_line(alloc: Global, line: &[u8]) -> Result<Option<PlaceLine>, AllocError>
     ensures { IfOk result (λ said. said ≡ place_line line.now) }
 {
@@ -27,6 +27,15 @@ fn bare_line(line: &[u8]) -> Option<PlaceLine>
 {
     if line == b"listener".as_slice() {
         return Some(PlaceLine::Listener);
+    }
+    if line == b"late".as_slice() {
+        return Some(PlaceLine::Late);
+    }
+    if line == b"skip".as_slice() {
+        return Some(PlaceLine::Skip);
+    }
+    if line == b"fail-listener".as_slice() {
+        return Some(PlaceLine::FailListener);
     }
     if line == b"wait".as_slice() {
         return Some(PlaceLine::Wait);

@@ -1,6 +1,6 @@
 //! Reads the lines that set how connections are served.
 ghost use Rattle.std.specs.Prelude.{◌≡◌};
-ghost use Rattle.script.specs.Script.{bare_setting, handler_line, setting_line, status_line};
+ghost use Rattle.script.specs.Script.{bare_setting, handler_line, server_line, setting_line, status_line};
 
 use crate::final_status::FinalStatus;
 use crate::handler::Handler;
@@ -11,6 +11,9 @@ use crate::text::number_behind;
 pub(crate) fn read_setting_line(line: &[u8]) -> Option<SettingLine>
     ensures { result ≡ setting_line line.now }
 {
+    if let Some(said) = server_line(line) {
+        return Some(said);
+    }
     if let Some(size) = number_behind(b"head ".as_slice(), 1, 65_535, line) {
         return Some(SettingLine::Head(size));
     }
@@ -25,6 +28,23 @@ pub(crate) fn read_setting_line(line: &[u8]) -> Option<SettingLine>
     }
     let handler = handler_line(line)?;
     Some(SettingLine::Handle(handler))
+}
+
+// What the server is set to.
+fn server_line(line: &[u8]) -> Option<SettingLine>
+    ensures { result ≡ server_line line.now }
+{
+    if let Some(count) = number_behind(b"workers ".as_slice(), 1, 512, line) {
+        return Some(SettingLine::Workers(count));
+    }
+    if let Some(places) = number_behind(b"ring ".as_slice(), 1, 4_096, line) {
+        return Some(SettingLine::Ring(places));
+    }
+    if let Some(most) = number_behind(b"retry ".as_slice(), 1, 1_000, line) {
+        return Some(SettingLine::Retry(most));
+    }
+    let most = number_behind(b"limit ".as_slice(), 1, 1_000_000, line)?;
+    Some(SettingLine::Limit(most))
 }
 
 // A setting that has no value.

@@ -1,5 +1,7 @@
-use Rattle.std.proofs.Common.{◌==◌, ◌+◌, rules, sym, ap}
+use Rattle.std.proofs.Common.{◌==◌, ◌+◌, arith, rules, sym, ap}
 use Rattle.std.proofs.lemmas.List.{length_push}
+use Rattle.std.proofs.lemmas.List.Splits.{length-slice_split}
+use Rattle.std.proofs.lemmas.List.Sums.{count_by-le-length}
 use Rattle.std.proofs.lemmas.Iterator.Splits.{YieldsList-from_slice_split}
 use Rattle.std.proofs.lemmas.Iterator.Consumers.{YieldsList-turn, YieldsList-end}
 use Rattle.script.proofs.Lines.{read_bad, read_on, read_all}
@@ -22,3 +24,10 @@ pub returns : goal.returns
 returns c =
     let end = YieldsList-end (YieldsList-from_slice_split _ (λ b. b == 10) c.args.bytes.now (cc) (cc) (cc) (λ x b q called. search rules)) c.loop-line.yielded _ c.loop-line.yielded_by _ _ c.in-None.is c.next.ensures.steps in
     sym (read_all _ _ _ _ c.loop-line.invariant.so_far end.1)
+
+pub overflow_add-number : goal.overflow_add-number
+overflow_add-number c =
+    let here = YieldsList-turn (YieldsList-from_slice_split _ (λ b. b == 10) c.args.bytes.now (cc) (cc) (cc) (λ x b q called. search rules)) c.loop-line.yielded _ c.loop-line.yielded_by _ _ c.in-Some.line c.in-Some.is c.next.ensures.steps in
+    let all = length-slice_split (λ b. b == 10) c.args.bytes.now in
+    let most = count_by-le-length (λ b. b == 10) c.args.bytes.now in
+    omega (arith, here.0, all, most, c.loop-line.invariant.counted)

@@ -1,4 +1,4 @@
 use Rattle.server_program.proofs.program.script_of.Goals as goal
 
-pub returns-else-not-script-clause-unserved : goal.returns-else-not-script-clause-unserved
-returns-else-not-script-clause-unserved c = tt
+pub returns-else-is_empty-clause-unserved : goal.returns-else-is_empty-clause-unserved
+returns-else-is_empty-clause-unserved c = tt

@@ -1,0 +1,4 @@
+pub mod Policing
+pub mod Creating
+pub mod Making
+pub mod Crossing

@@ -1,0 +1,4 @@
+pub mod Factories
+pub mod Making
+pub mod Serving
+pub mod Sites
