@@ -21,20 +21,22 @@ static unsigned long refuse;
 static size_t held;
 static size_t most;
 
-/* Notes what was allocated. */
+/* Notes what was allocated. Threads allocate at the same time. */
 static void *noted(void *got) {
-    held += got ? malloc_usable_size(got) : 0;
-    if (held > most)
-        most = held;
+    size_t now = __atomic_add_fetch(&held, got ? malloc_usable_size(got) : 0, __ATOMIC_RELAXED);
+    size_t before = __atomic_load_n(&most, __ATOMIC_RELAXED);
+    while (now > before && !__atomic_compare_exchange_n(&most, &before, now, 0, __ATOMIC_RELAXED, __ATOMIC_RELAXED))
+        ;
     return got;
 }
 
-/* Counts an allocation. Whether it is the one to refuse. */
+/* Counts an allocation. Whether it is the one to refuse. The first one comes before any thread. */
 static int is_refused(void) {
-    const char *wanted = count == 0 ? getenv("REFUSE") : NULL;
+    unsigned long number = __atomic_add_fetch(&count, 1, __ATOMIC_RELAXED);
+    const char *wanted = number == 1 ? getenv("REFUSE") : NULL;
     if (wanted)
         refuse = strtoul(wanted, NULL, 10);
-    if (++count != refuse)
+    if (number != refuse)
         return 0;
     const char *shown = getenv("REFUSED");
     if (shown)
@@ -49,7 +51,7 @@ void *memalign(size_t align, size_t size) { return is_refused() ? NULL : noted(_
 void *aligned_alloc(size_t align, size_t size) { return memalign(align, size); }
 
 void free(void *old) {
-    held -= old ? malloc_usable_size(old) : 0;
+    __atomic_sub_fetch(&held, old ? malloc_usable_size(old) : 0, __ATOMIC_RELAXED);
     __libc_free(old);
 }
 
@@ -58,7 +60,7 @@ void *realloc(void *old, size_t size) {
     size_t before = old ? malloc_usable_size(old) : 0;
     void *got = is_refused() ? NULL : noted(__libc_realloc(old, size));
     if (got)
-        held -= before;
+        __atomic_sub_fetch(&held, before, __ATOMIC_RELAXED);
     return got;
 }
 

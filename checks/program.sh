@@ -42,7 +42,7 @@ trap 'rm -rf "$work"' EXIT
 head -c 16777217 /dev/zero | tr '\0' '#' > "$work/long.script"
 check "a script that is too long" 3 "script is longer than 16777216 bytes" "$work/long.script" replay
 case $("$top/dongurapi" --help) in
-    *"usage: dongurapi replay"*"7 memory ran out") passed=$((passed + 1)) ;;
+    *"usage: dongurapi replay"*"8 a worker could not be started") passed=$((passed + 1)) ;;
     *) failed=$((failed + 1)) && echo "failed: the help" ;;
 esac
 

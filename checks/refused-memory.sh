@@ -2,7 +2,8 @@
 # Every refused allocation ends as want of memory. Replays each example and each script of `checks/cases`, but those whose
 # bytes come one by one and that come whole in another, and runs each test, with its first allocation refused, then with its
 # second one, and so on, until a run makes so few that none is refused, at most 500 times. A run of the program must end as
-# the whole one, with status 7, or with a report that shows `memory`; a run of a test must pass, or end for want of memory.
+# the whole one, with status 7, with 8 where a thread found no memory, or with a report that shows `memory`; a run of a test must
+# pass, or end for want of memory.
 # It prints how many were refused, and fails where a run ends otherwise.
 #
 # It tries the program and the tests that `rt ci` has built. A small library that is loaded before the C library refuses
@@ -46,7 +47,7 @@ def tried(number, command, given, is_allowed):
 
 def replay_is_allowed(whole):
     def is_allowed(status, text):
-        return (status, text) in (whole, (7, "out of memory\n")) or status == 0 and shows_memory(text)
+        return (status, text) in (whole, (7, "out of memory\n"), (8, "no worker could be started\n")) or status == 0 and shows_memory(text)
     return is_allowed
 
 # A line of a connection that ended as `memory`, or the last line `end memory`.

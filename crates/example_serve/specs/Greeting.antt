@@ -1,12 +1,15 @@
--- What the handler answers.
-use Rattle.std.specs.Prelude.{◌≡◌, ℕ, List, [], ◌++◌, codes, Result, IfOk}
-use Rattle.http1_grammar.specs.Wire.{Response}
-use Rattle.http1_plain.specs.declared.request.Request.{Request}
+-- What the greeter's connections give.
+use Rattle.std.specs.Prelude.{◌≡◌, Result}
+use Rattle.service_core.specs.Holding.{OfKept}
+use Rattle.service_core.specs.declared.ended.Ended.{Ended}
+use Rattle.service_core.specs.declared.link.Link.{Ghosts as LinkOf}
+use Rattle.server_run.specs.Creating.{OnlyEnds}
+use Rattle.example_serve.specs.declared.greeting.Greeting.{Greeting}
 
--- the greeting of a request for this target
-abbrev pub greeting : List ℕ → Response
-greeting target = record { status = 200; headers = []; body = codes "Hello from " ++ target }
+-- a connection ends with its link, and never errs
+abbrev pub EndsOf : {L E : Type 0} → LinkOf L → L → Result (Ended L) E → Type 0
+EndsOf g link = OnlyEnds (λ ended. g.identity ended.link ≡ g.identity link)
 
--- a response is the greeting of the request's target; an error may always come
-abbrev pub Greets : {E : Type 0} → Request → Result Response E → Type 0
-Greets request result = IfOk result (λ response. response ≡ greeting request.head.target)
+-- what a connection under way may give: an end of the link that it has
+abbrev pub GivesBack : {L E : Type 0} → LinkOf L → Greeting L → Result (Ended L) E → Type 0
+GivesBack g f r = OfKept f.link (λ link. EndsOf g link r)

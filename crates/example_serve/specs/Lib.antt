@@ -1,2 +1,1 @@
 pub mod Greeting
-pub mod Connections

@@ -1,40 +1,48 @@
-//! Three connections in memory.
+//! Connections in memory.
+ghost use Rattle.std.specs.Prelude.{◌≤◌, IfOk, vec_len};
+
 use server_run::{ListenerStep, MemoryLink, MemoryListener, ReadStep};
 use service_core::{Octets, Peer};
 use std::alloc::{AllocError, Global};
 
-// A request, whole.
+// A line, whole.
 fn in_one_piece(alloc: Global) -> Result<MemoryLink, AllocError> {
-    let request = Octets::of(alloc, b"GET /apples HTTP/1.1\r\nhost: shop\r\n\r\n")?;
-    let reads = vec![in alloc; ReadStep::Give(request)]?;
+    let line = Octets::of(alloc, b"Ada\n")?;
+    let reads = vec![in alloc; ReadStep::Give(line)]?;
     Ok(MemoryLink::new(alloc, 0, Peer::Local, reads, Vec::new(alloc)))
 }
 
-// A request whose head is cut, and comes after a wait.
+// A line that is cut, and comes after a wait.
 fn in_two_pieces(alloc: Global) -> Result<MemoryLink, AllocError> {
     let reads = vec![in alloc;
-        ReadStep::Give(Octets::of(alloc, b"GET /pears HTTP/1.1\r\nho")?),
+        ReadStep::Give(Octets::of(alloc, b"Blaise Pas")?),
         ReadStep::NotYet,
-        ReadStep::Give(Octets::of(alloc, b"st: shop\r\n\r\n")?),
+        ReadStep::Give(Octets::of(alloc, b"cal\n")?),
     ]?;
     Ok(MemoryLink::new(alloc, 1, Peer::Local, reads, Vec::new(alloc)))
 }
 
-// A peer that is gone before its request is whole.
+// A peer that is gone before its line is whole.
 fn broken_off(alloc: Global) -> Result<MemoryLink, AllocError> {
-    let reads = vec![in alloc;
-        ReadStep::Give(Octets::of(alloc, b"GET /plums")?),
-        ReadStep::Fail,
-    ]?;
+    let reads = vec![in alloc; ReadStep::Give(Octets::of(alloc, b"Char")?), ReadStep::Fail]?;
     Ok(MemoryLink::new(alloc, 2, Peer::Local, reads, Vec::new(alloc)))
 }
 
-/// The listener that gives them, and then ends.
-pub fn listener(alloc: Global) -> Result<MemoryListener, AllocError> {
-    let steps = vec![in alloc;
+/// A listener that gives two connections, and one that gives a third after a wait. Then they end.
+pub fn listeners(alloc: Global) -> Result<Vec<MemoryListener>, AllocError>
+    ensures few { IfOk result (λ listeners. vec_len listeners ≤ 64) }
+{
+    let first = vec![in alloc;
         ListenerStep::Give(in_one_piece(alloc)?),
-        ListenerStep::Give(in_two_pieces(alloc)?),
         ListenerStep::Give(broken_off(alloc)?),
     ]?;
-    Ok(MemoryListener::new(alloc, steps))
+    let second = vec![in alloc;
+        ListenerStep::NotYet,
+        ListenerStep::Give(in_two_pieces(alloc)?),
+    ]?;
+    let listeners = vec![in alloc;
+        MemoryListener::new(alloc, first),
+        MemoryListener::new(alloc, second),
+    ]?;
+    Ok(listeners)
 }

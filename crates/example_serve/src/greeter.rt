@@ -1,62 +1,58 @@
-ghost use Rattle.std.specs.Prelude.{◌≡◌, ⊤, Ok, IfOk};
+//! The service of connections, and what makes it.
+ghost use Rattle.std.specs.Prelude.{◌≡◌, ⊤, Some, Ok};
+ghost use Rattle.std.proofs.Common.{rules};
 ghost use Rattle.futures.specs.declared.task.Poll.TheVariants.{Ready as PollReady};
-ghost use Rattle.service_core.specs.Meaning.{GivesOnly};
-ghost use Rattle.example_serve.specs.Greeting.{greeting, Greets};
+ghost use Rattle.example_serve.specs.Greeting.{EndsOf};
 
-use futures::Future;
+use crate::greeting::Greeting;
+use crate::words::Words;
 use futures::task::{Context, Poll};
-use http1_plain::{Request, Response};
-use service_core::{Octets, Ready, Service, ServiceFactory, ok, ready};
+use service_core::{Ended, Link, Octets, Ready, Service, ServiceFactory, ok};
 use std::alloc::{AllocError, Global};
 
-/// The handler: it greets each request by its target.
+/// Greets each connection.
 #[derive(Clone, Copy)]
 pub struct Greeter {
-    /// Where its responses take their memory.
+    /// Where its connections take their memory.
     pub alloc: Global,
+    /// What it says.
+    pub words: Words,
 }
 
-impl Greeter {
-    fn greeting(&self, target: &[u8]) -> Result<Response, AllocError>
-        ensures { IfOk result (λ response. response ≡ greeting target.now) }
-    {
-        let mut body = Octets::of(self.alloc, b"Hello from ")?;
-        body.push_all(target)?;
-        let mut response = Response::new(self.alloc, 200);
-        response.set_body(body);
-        Ok(response)
-    }
-}
+impl<L: Link> Service<L> for Greeter {
+    type Response = Ended<L>;
 
-impl Service<Request> for Greeter {
-    type Response = Response;
+    type Error = ();
 
-    type Error = AllocError;
+    type Future = Greeting<L>;
 
-    type Future = Ready<Result<Response, AllocError>>;
-
-    ghost may = { λ _ request result. Greets request result };
+    ghost may = { λ _ link. EndsOf L.Link link };
 
     ghost may_ready = { λ _ answer. answer ≡ PollReady (Ok tt) };
 
-    ghost may_begin = { λ _ request future. GivesOnly ⟦<Ready<Result<Response, AllocError>> as Future>⟧ future (Greets request) };
+    ghost may_begin = { λ _ link f. f.link ≡ Some link };
 
-    ghost begun_gives = { λ _ _ _ begun. begun };
+    ghost begun_gives = { Prim.search rules };
 
-    fn poll_ready(&self, _cx: &mut Context<'_>) -> Poll<Result<(), AllocError>> {
+    fn poll_ready(&self, _cx: &mut Context<'_>) -> Poll<Result<(), ()>> {
         Poll::Ready(Ok(()))
     }
 
-    fn call(&self, request: Request) -> Ready<Result<Response, AllocError>> {
-        ready(self.greeting(request.head.target.as_bytes()))
+    fn call(&self, link: L) -> Greeting<L> {
+        Greeting {
+            link: Some(link),
+            words: self.words,
+            line: Octets::new(self.alloc),
+            answer: Octets::new(self.alloc),
+        }
     }
 }
 
 /// It makes itself.
-impl ServiceFactory<Request> for Greeter {
-    type Response = Response;
+impl<L: Link> ServiceFactory<L> for Greeter {
+    type Response = Ended<L>;
 
-    type Error = AllocError;
+    type Error = ();
 
     type Config = ();
 
@@ -66,17 +62,17 @@ impl ServiceFactory<Request> for Greeter {
 
     type Future = Ready<Result<Greeter, AllocError>>;
 
-    ghost may = { λ _ _ request result. Greets request result };
+    ghost may = { λ _ _ link. EndsOf L.Link link };
 
     ghost may_ready = { λ _ _ answer. answer ≡ PollReady (Ok tt) };
 
-    ghost may_begin = { λ _ _ request future. GivesOnly ⟦<Ready<Result<Response, AllocError>> as Future>⟧ future (Greets request) };
+    ghost may_begin = { λ _ _ link f. f.link ≡ Some link };
 
-    ghost may_init = { λ _ _ _. ⊥ };
+    ghost may_init = { λ _ _ _. ⊤ };
 
     ghost may_make = { λ _ _. ⊤ };
 
-    ghost begun_gives = { λ _ _ _ _ begun. begun };
+    ghost begun_gives = { Prim.search rules };
 
     fn new_service(&self, _cfg: ()) -> Ready<Result<Greeter, AllocError>> {
         ok(*self)

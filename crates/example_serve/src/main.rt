@@ -1,50 +1,70 @@
-//! Serves three connections by a handler of its own, and prints what became of each.
+//! Serves three connections by a service of its own, on two threads, and prints what became of each.
 #![tactic(auto)]
 
 mod connections;
 mod greeter;
-mod greeter_factory;
+mod greeters;
+mod greeting;
+mod words;
 
 use command_line::print;
-use connections::listener;
-use greeter::Greeter;
-use greeter_factory::GreeterFactory;
-use http1_plain::Limits;
-use server_alone::Server;
+use connections::listeners;
+use greeters::Greeters;
+use server_edge::{SystemClock, ThreadSpawner};
 use server_run::{Entry, Host, KeepAll, MemoryLink};
+use service_core::Ended;
 use std::alloc::{AllocError, Global};
 use std::process::ExitCode;
+use std::time::Clock as TimeSource;
 
 // The entry in words: the listener's token, the place among its connections, how it ended, and what was written.
-fn push_line(
-    alloc: Global,
-    text: &mut String,
-    entry: &Entry<MemoryLink>,
-) -> Result<(), AllocError> {
+fn line_of(alloc: Global, entry: &Entry<MemoryLink>) -> Result<String, AllocError> {
     let written = String::from_utf8_lossy(alloc, entry.link.written())?;
-    let line = format!(in alloc;
+    format!(in alloc;
         "{}.{} {:?} {:?}\n",
         entry.token, entry.place, entry.outcome, written
-    )?;
-    text.push_str(&line)
+    )
 }
 
-// Serves what the listener gives. Returns a line for each connection.
-fn served<H: Host>(rt: &H, alloc: Global) -> Result<String, AllocError> {
-    let mut listeners = vec![in alloc; listener(alloc)?]?;
-    let mut done = KeepAll::new(alloc);
-    let server = Server::build(alloc)?.run(GreeterFactory {
-        greeter: Greeter { alloc },
-        limits: Limits::new(8_192, 65_536),
-    });
-    let Ok(_) = server.serve(rt, alloc, &mut listeners, &mut done) else {
-        return Err(AllocError);
-    };
+// A line for each entry, by listener and place. The entries come in the order in which the connections end, which differs
+// from run to run.
+fn text_of(alloc: Global, entries: &[Entry<MemoryLink>]) -> Result<String, AllocError> {
+    let mut lines = Vec::new(alloc);
+    for entry in entries {
+        lines.push(line_of(alloc, entry)?)?;
+    }
+    lines.sort()?;
     let mut text = String::new(alloc);
-    for entry in done.entries() {
-        push_line(alloc, &mut text, entry)?;
+    for line in &lines {
+        text.push_str(line)?;
     }
     Ok(text)
+}
+
+// Serves what the listeners give. Returns a line for each connection.
+fn served<H>(rt: &H, alloc: Global) -> Result<String, AllocError>
+where
+    H: Host + TimeSource + 'static,
+{
+    // The proof of `serve` wants this type to be named.
+    let _ended: Option<Ended<MemoryLink>> = None;
+    let mut listeners = listeners(alloc)?;
+    let mut clock = SystemClock::new(rt);
+    let mut spawner = ThreadSpawner::new(alloc)?;
+    let mut done = KeepAll::new(alloc);
+    let server = server::new(alloc)?.workers(2).run(Greeters);
+    let run = server.serve(
+        rt,
+        alloc,
+        &mut listeners,
+        &mut clock,
+        &mut spawner,
+        &mut done,
+    );
+    match run {
+        Ok(_) => text_of(alloc, done.entries()),
+        Err(_) => Err(AllocError),
+    }
 }
 
 fn main(rt: HostRuntime) -> ExitCode {

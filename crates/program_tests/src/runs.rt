@@ -3,7 +3,7 @@
 use crate::shown::{hold, holds};
 use server_edge::ScriptSpawner;
 use server_jobs::StepClock;
-use server_program::{MemorySink, MemorySource, run};
+use server_program::{MemorySink, MemorySource, a_good_script_is_served, run};
 use server_run::Host;
 use service_core::Octets;
 use std::alloc::{AllocError, AllocGlobal, Global};
@@ -122,9 +122,9 @@ fn tells_memory(got: &[u8]) -> bool {
         || got.ends_with(b"end memory\n".as_slice())
 }
 
-// Whether a run with this status ends as told, where it had enough memory.
+// Whether a run with this status ends as told, where it had enough memory, for its threads too.
 fn is_end(row: Row, status: u8, got: &[u8]) -> Result<bool, AllocError> {
-    if status == 7 || tells_memory(got) {
+    if status == 7 || (status == 8 && row.status != 8) || tells_memory(got) {
         return Err(AllocError);
     }
     Ok(status == row.status && is_got(got, row.got))
@@ -232,6 +232,11 @@ fn of_start<'a>(start: u64, wanted: (u8, &'a str)) -> Row<'a> {
         room: 4096,
     };
     of_replay(faults, wanted)
+}
+
+#[test]
+fn the_law_of_good_scripts_can_be_called() {
+    a_good_script_is_served::<MemorySource, MemorySink, ScriptSpawner>();
 }
 
 #[test]

@@ -2,7 +2,7 @@
 use crate::answer::Answer;
 use crate::answer::Answer::{Fail as Fails, Give, NotYet, Skip};
 use crate::plan::{PLAIN, Plan};
-use crate::serving::come_to;
+use crate::serving::{come_in_order, come_to};
 use std::test::Fail;
 
 #[test]
@@ -52,4 +52,17 @@ fn a_listener_that_fails_too_often_is_given_up(rt: HostRuntime) -> Result<(), Fa
         2: unread 201 202 203 ended\n\
         entries 4, drained";
     come_to(&rt, &plan.by_workers(), &answers, wanted)
+}
+
+#[test]
+fn one_worker_with_room_for_one_hands_on_in_order(rt: HostRuntime) -> Result<(), Fail> {
+    let plan = Plan {
+        workers: 1,
+        limit: 1,
+        before: 2,
+        ..PLAIN
+    };
+    let answers: [&[Answer]; 1] = [&[NotYet, Give(1), Skip, Fails, Give(2), NotYet]];
+    let wanted = b"0: 0.0 served 1\n1: 0.1 served 4\n2: 0.2 served 5\ndrained";
+    come_in_order(&rt, &plan, &answers, wanted)
 }

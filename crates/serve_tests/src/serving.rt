@@ -93,6 +93,18 @@ fn tell_count(log: &mut Log, entries: &[Entry<MemoryLink>]) {
     }
 }
 
+// The entries in the order in which they came: of each its number, its token and place, its outcome, and its link's name.
+fn tell_entries(log: &mut Log, entries: &[Entry<MemoryLink>]) {
+    for entry in entries {
+        log.before("", entry.serial);
+        log.before(": ", entry.token as u64);
+        log.before(".", entry.place);
+        log.outcome(entry.outcome);
+        log.before(" ", entry.link.name());
+        log.word("\n");
+    }
+}
+
 // What a run that served came to.
 fn tell_report(log: &mut Log, entries: &[Entry<MemoryLink>], report: &Report) {
     for token in 0..report.listeners.len() {
@@ -203,6 +215,17 @@ impl Stage {
         }
         log
     }
+
+    // The entries of a run that nothing but want of memory stops, and its end.
+    fn tell_order(&self, run: Result<Report, ServeError<usize>>) -> Log {
+        let mut log = Log::new(self.alloc);
+        tell_entries(&mut log, self.done.entries());
+        match run {
+            Ok(Report { end, .. }) if end == End::Drained => log.word("drained"),
+            Ok(_) | Err(_) => log.lack_memory(),
+        }
+        log
+    }
 }
 
 // What serving by the plan comes to, over listeners that answer so: of each connection, by token and place, the name of its link
@@ -217,6 +240,19 @@ fn served<Ho: Host + 'static>(
     let mut stage = Stage::new(alloc, plan, answers)?;
     let run = stage.run(rt, server);
     Ok(stage.tell(plan, run))
+}
+
+// The entries that serving by the plan gives, in the order in which they come, and the end.
+fn served_in_order<Ho: Host + 'static>(
+    rt: &Ho,
+    alloc: Global,
+    plan: &Plan,
+    answers: &[&[Answer]],
+) -> Result<Log, AllocError> {
+    let server = plan.server(alloc)?;
+    let mut stage = Stage::new(alloc, plan, answers)?;
+    let run = stage.run(rt, server);
+    Ok(stage.tell_order(run))
 }
 
 // Whether this is what it came to.
@@ -234,5 +270,16 @@ pub(crate) fn come_to<R: Host + AllocGlobal + Abort + 'static>(
     for plan in plans {
         assert!(rt; is_so(served(rt, rt.alloc(), plan, answers), wanted)?);
     }
+    Ok(())
+}
+
+/// The test goes on where serving by this plan gives these entries, in this order.
+pub(crate) fn come_in_order<R: Host + AllocGlobal + Abort + 'static>(
+    rt: &R,
+    plan: &Plan,
+    answers: &[&[Answer]],
+    wanted: &[u8],
+) -> Result<(), Fail> {
+    assert!(rt; is_so(served_in_order(rt, rt.alloc(), plan, answers), wanted)?);
     Ok(())
 }
