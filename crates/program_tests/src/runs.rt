@@ -122,9 +122,14 @@ fn tells_memory(got: &[u8]) -> bool {
         || got.ends_with(b"end memory\n".as_slice())
 }
 
-// Whether a run with this status ends as told, where it had enough memory, for its threads too.
+// Whether a thread found no memory, in a run whose starts are not to be refused.
+fn lacks_a_worker(row: Row, status: u8, got: &[u8]) -> bool {
+    row.status != 8 && (status == 8 || got.starts_with(b"no worker ".as_slice()))
+}
+
+// Whether a run with this status ends as told, where it had enough memory.
 fn is_end(row: Row, status: u8, got: &[u8]) -> Result<bool, AllocError> {
-    if status == 7 || (status == 8 && row.status != 8) || tells_memory(got) {
+    if status == 7 || tells_memory(got) || lacks_a_worker(row, status, got) {
         return Err(AllocError);
     }
     Ok(status == row.status && is_got(got, row.got))
