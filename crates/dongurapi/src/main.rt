@@ -19,14 +19,14 @@ usage: dongurapi replay < SCRIPT
 
 `listen ADDR N` and `generate N K`, which the usage of status 2 names too, are not built yet.
 
-replay   reads a script of connections from standard input, serves each over a link in memory, and
-         prints what was written on it. Lines of a script: `listener`; `conn PEER` with PEER as
-         `10.0.0.1:5000` or `local`; and `give TEXT` with the escapes \\r \\n \\t \\\" \\\\ \\xHH. Before the
-         listener: `handler hello|peer|fail`, and lines of the policy: `permissive`, `any-origin`,
-         `origin T`, `rule always|dnt|rust-lang`, `any-method`, `methods A ..`, `any-header`,
-         `header T`, `headers A ..`, `expose-any`, `expose A ..`, `max-age N|none`, `wildcard`,
-         `credentials`, `no-vary`, `no-preflight`, `block`. Empty lines and lines that begin with `#`
-         are skipped.
+replay   reads a script of connections from standard input, serves each over a link in memory, by
+         workers on threads, and prints what was written on it. Lines of a script: `listener`; `conn PEER`
+         with PEER as `10.0.0.1:5000` or `local`; and `give TEXT` with the escapes \\r \\n \\t \\\" \\\\ \\xHH.
+         Before the first listener: `workers N`, `limit N`, `ring N`, `retry N`, `handler hello|echo|peer|fail`,
+         and lines of the policy: `permissive`, `any-origin`, `origin T`, `rule always|dnt|rust-lang`,
+         `any-method`, `methods A ..`, `any-header`, `header T`, `headers A ..`, `expose-any`, `expose A ..`,
+         `max-age N|none`, `wildcard`, `credentials`, `no-vary`, `no-preflight`, `block`. Empty lines and
+         lines that begin with `#` are skipped. docs/SCRIPT.md has every line.
 
 status   0 served; 2 the words are none of these; 3 a line of the script is not understood, or the
          script is too long; 4 the script names no listener, or its policy is refused; 5 a read failed;
