@@ -13,6 +13,7 @@ top = os.path.dirname(os.path.dirname(os.path.abspath(__file__)))
 launcher = os.path.join(top, "dongurapi")
 program = os.path.join(top, "crates", "dongurapi", "out", "dongurapi")
 GET = "give GET / HTTP/1.1\\r\\n\\r\\n"
+VARY = "vary: Origin, Access-Control-Request-Method, Access-Control-Request-Headers\\r\\n"
 LINE = re.compile(r'(\d+)\.(\d+) ([a-z-]+) "(.*)"')
 passed = failed = 0
 
@@ -40,7 +41,7 @@ def settings(workers, limit=25600, ring=128, cut=65536):
 
 def three_peers(workers):
     """Three connections, each answered with its peer."""
-    lines = settings(workers, 1, 1, 1) + ["no-vary", "handler peer", "listener"]
+    lines = settings(workers, 1, 1, 1) + ["handler peer", "listener"]
     for n in (1, 2, 3):
         lines += [f"conn 10.0.0.{n}:{n}", GET]
     return lines
@@ -48,7 +49,7 @@ def three_peers(workers):
 
 def three_lines():
     """Their report."""
-    told = [f'0.{n - 1} served "HTTP/1.1 200 OK\\r\\ncontent-length: 10\\r\\n\\r\\n10.0.0.{n}:{n}"' for n in (1, 2, 3)]
+    told = [f'0.{n - 1} served "HTTP/1.1 200 OK\\r\\n{VARY}content-length: 10\\r\\n\\r\\n10.0.0.{n}:{n}"' for n in (1, 2, 3)]
     return "\n".join(told + ["listener 0 ended", "end drained", ""])
 
 
