@@ -5,10 +5,10 @@ ghost use Rattle.server_acceptor.specs.Acceptors.{all_ready, serial_of};
 ghost use Rattle.server.specs.Accepting.{Accepts, CanAccept};
 
 use crate::rests::Rests;
-use futures::task::{Context, Queue};
+use futures::task::Context;
 use server_acceptor::{AcceptTurn, Acceptor};
 use server_core::Event;
-use server_jobs::Clock;
+use server_jobs::{Clock, OneTask};
 use server_run::{Done, End, Listener};
 use service_core::Link;
 use std::sync::Wait;
@@ -79,10 +79,10 @@ where
     unreachable!()
 }
 
-// Accepts with a context of the queue.
+// Accepts with a context of the task.
 pub(crate) fn accept_on<Ho, Li, Cl, Sp, Do>(
     rt: &Ho,
-    queue: &Queue,
+    task: &OneTask,
     acceptor: &mut Acceptor<Li::Link>,
     numbers: &[usize],
     listeners: &mut Vec<Li>,
@@ -103,7 +103,7 @@ where
     ensures finished { IfSome result (λ end. (all_ready acceptor.new ≡ true) × Finishes acceptor.new end) }
     ensures refused { result ≡ None → (all_ready acceptor.new ≡ false) ⊎ (serial_of acceptor.new ≡ 0) }
 {
-    let mut cx = queue.next(rt)?;
+    let mut cx = task.begin();
     let end = accept_all(
         rt, &mut cx, acceptor, numbers, listeners, clock, spawner, done,
     );

@@ -2,10 +2,9 @@
 ghost use Rattle.std.specs.Prelude.{◌≡◌, ◌≤◌, [], vec_capacity, IfOk};
 ghost use Rattle.server_acceptor.specs.Beginning.{IsRoomFor};
 
-use futures::task::Queue;
 use rtrb::{Consumer, Producer};
 use server_acceptor::Room;
-use server_jobs::{Note, Parcel, queue_of_one};
+use server_jobs::{Note, OneTask, Parcel};
 use server_run::ListenerState;
 use std::alloc::{AllocError, Global};
 
@@ -20,8 +19,8 @@ pub(crate) struct Prepared<L: Drop> {
     pub(crate) numbers: Vec<usize>,
     // For what is told of the listeners.
     pub(crate) states: Vec<ListenerState>,
-    // Whose one task the acceptor is.
-    pub(crate) queue: Queue,
+    // The acceptor's.
+    pub(crate) task: OneTask,
 }
 
 impl<L: Drop> Prepared<L> {
@@ -41,7 +40,7 @@ impl<L: Drop> Prepared<L> {
         let notes = Vec::with_capacity(alloc, workers)?;
         let numbers = Vec::with_capacity(alloc, workers)?;
         let states = Vec::with_capacity(alloc, listeners)?;
-        let Some(queue) = queue_of_one(alloc, 0) else {
+        let Some(task) = OneTask::new(alloc, 0) else {
             return Err(AllocError);
         };
         Ok(Prepared {
@@ -50,7 +49,7 @@ impl<L: Drop> Prepared<L> {
             notes,
             numbers,
             states,
-            queue,
+            task,
         })
     }
 }

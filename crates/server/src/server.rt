@@ -102,7 +102,7 @@ impl<F> Server<F> {
             mut notes,
             mut numbers,
             states,
-            queue,
+            task,
         } = Prepared::new(alloc, settings.workers, count)?;
         let mut running = Vec::with_capacity(alloc, settings.workers)?;
         let fault = start_workers(
@@ -135,7 +135,7 @@ impl<F> Server<F> {
             settings.shutdown_timeout,
         );
         serve_on(
-            rt, &factory, &queue, acceptor, running, numbers, states, listeners, clock, spawner,
+            rt, &factory, &task, acceptor, running, numbers, states, listeners, clock, spawner,
             done,
         )
     }

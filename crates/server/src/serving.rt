@@ -15,9 +15,8 @@ use crate::joining::{join_all, stop_all, wake_all};
 use crate::rests::Rests;
 use crate::states::{tell_numbers, tell_states};
 use crate::unstarted::Unstarted;
-use futures::task::Queue;
 use server_acceptor::Acceptor;
-use server_jobs::{Clock, Running, ThreadFactory};
+use server_jobs::{Clock, OneTask, Running, ThreadFactory};
 use server_run::{Done, Listener, ListenerState, Report, ServeError};
 use service_core::{Link, ServiceFactory};
 use std::sync::Wait;
@@ -42,7 +41,7 @@ fn error_of<I>(unstarted: Option<Unstarted<I>>) -> ServeError<I>
 pub(crate) fn serve_on<Ho, Li, F, Cl, Sp, Do>(
     rt: &Ho,
     factory: &F,
-    queue: &Queue,
+    task: &OneTask,
     acceptor: Acceptor<Li::Link>,
     running: Vec<Running<WorkerJob<Li::Link, F>>>,
     numbers: Vec<usize>,
@@ -80,7 +79,7 @@ where
     tell_numbers(&running, &mut numbers);
     let end = accept_on(
         rt,
-        queue,
+        task,
         &mut acceptor,
         numbers.as_slice(),
         listeners,

@@ -52,6 +52,11 @@ impl<Ho> Waiter<Ho> {
         self.seat.starter.unpark();
     }
 
+    /// Whether the next wait parks the thread. It claims nothing.
+    pub fn is_tired(&self) -> bool {
+        self.idle >= ROUNDS
+    }
+
     /// The job did something: its next waits are short. It claims nothing.
     pub fn stirred(&mut self)
         ensures host { host_of self.new ≡ host_of self.old }

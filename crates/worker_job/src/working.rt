@@ -8,7 +8,7 @@ ghost use Rattle.worker_job.specs.declared.worker_job.WorkerJob.{WorkerJob};
 
 use crate::departure::Departure;
 use futures::task::Context;
-use server_jobs::{Handed, Waiter, queue_of_one};
+use server_jobs::{Handed, OneTask, Waiter};
 use server_run::ServerServiceFactory;
 use server_worker::{Turned, Worker};
 use service_core::{Link, Service, ServiceFactory};
@@ -16,31 +16,40 @@ use std::alloc::Global;
 use std::sync::Wait;
 use std::time::Clock;
 
-// So many turns with the same connections are made without a sleep but the last one's, which is all that a `Waiter` allows.
-const TURNS: u32 = 2_001;
-
-// Waits for what comes next, for a worker that held so many connections before its turn, and holds so many. Who started the job
-// is woken where something may have gone to him. A worker that goes on with the same connections sleeps after 2,000 turns, and
-// then once in so many turns, so that a long connection isn't held up; `quiet` counts these.
-fn rest<Ho: Wait + Clock>(waiter: &mut Waiter<Ho>, before: u64, now: u64, quiet: &mut u32) {
+// Waits for what comes next, for a worker that held so many connections before its turn, and holds so many, and gives the context
+// of the next turn. Who started the job is woken where something may have gone to him. A worker whose connections want another
+// poll doesn't sleep: it is asked before its thread would be parked.
+fn rest<'a, Ho: Wait + Clock>(
+    waiter: &mut Waiter<Ho>,
+    task: &'a OneTask,
+    cx: Context<'a>,
+    before: u64,
+    now: u64,
+) -> Context<'a> {
     let moved = now != before;
-    if moved || (now > 0 && *quiet >= TURNS) {
-        *quiet = 0;
+    if moved {
         waiter.stirred();
     }
-    *quiet = quiet.saturating_add(1);
     if moved || now == 0 {
         waiter.ring();
     }
+    if now == 0 || !waiter.is_tired() {
+        waiter.wait();
+        return cx;
+    }
+    if task.was_woken(cx) {
+        waiter.stirred();
+    }
     waiter.wait();
+    task.begin()
 }
 
 // Makes turns until the worker was stopped and holds nothing, or a service of its can't be made.
 fn make_turns<Ho, L, F>(
     host: &Ho,
+    task: &OneTask,
     waiter: &mut Waiter<Ho>,
     worker: &mut Worker<L, F>,
-    cx: &mut Context<'_>,
 ) -> Departure<<F::Factory as ServiceFactory<L>>::InitError>
 where
     Ho: Wait + Clock,
@@ -53,15 +62,19 @@ where
     ensures departs { Departs F.may_init worker.new result }
     ensures signals { TellsOfItself (Says (hand_of worker.old) (hand_of worker.new)) result }
 {
-    let mut quiet = 0;
+    let mut cx = task.begin();
     for _ in host.forever() {
         let before = worker.total();
-        match worker.turn(cx) {
+        match worker.turn(&mut cx) {
             Turned::Going | Turned::Short => {
-                rest(waiter, before, worker.total(), &mut quiet);
+                cx = rest(waiter, task, cx, before, worker.total());
             }
-            Turned::Left(_) => return Departure::Left,
+            Turned::Left(_) => {
+                cx.cancel();
+                return Departure::Left;
+            }
             Turned::Unstarted { token, error } => {
+                cx.cancel();
                 worker.tell_fault();
                 return Departure::Unstarted { token, error };
             }
@@ -90,7 +103,7 @@ where
     Departure::Memory
 }
 
-// Makes all turns, as the one task of a queue. One poll of that task serves for all of them.
+// Makes all turns, as one task.
 fn turn_on<Ho, L, F>(
     alloc: Global,
     waiter: &mut Waiter<Ho>,
@@ -111,15 +124,10 @@ where
     let Ok(host) = waiter.host().clone() else {
         return lack_memory(worker);
     };
-    let Some(queue) = queue_of_one(alloc, waiter.number()) else {
+    let Some(task) = OneTask::new(alloc, waiter.number()) else {
         return lack_memory(worker);
     };
-    let Some(mut cx) = queue.next(&host) else {
-        return lack_memory(worker);
-    };
-    let departure = make_turns(&host, waiter, worker, &mut cx);
-    cx.cancel();
-    departure
+    make_turns(&host, &task, waiter, worker)
 }
 
 // Makes all turns, and hands over what the worker then has.
