@@ -1,8 +1,8 @@
 //! The steps of a listener in memory.
-ghost use Rattle.std.specs.Prelude.{◌≡◌, length, IfOk};
+ghost use Rattle.std.specs.Prelude.{◌≡◌, length, map, IfOk};
 ghost use Rattle.std.specs.List.{count_by};
-ghost use Rattle.server_run.specs.Memory.{links, marks};
-ghost use Rattle.script.specs.Offering.{AreFresh, marks_of};
+ghost use Rattle.server_run.specs.Memory.{links};
+ghost use Rattle.script.specs.Offering.{AreFresh, coming_of};
 ghost use Rattle.script.specs.Planned.{is_connection};
 
 use crate::coming::Coming;
@@ -19,8 +19,8 @@ pub(crate) fn steps_of(
     connections: Vec<Connection>,
 ) -> Result<Vec<ListenerStep>, AllocError>
     requires { count_by is_connection comings.now ≡ length connections.items }
-    ensures fresh { IfOk result (λ steps. AreFresh ⟦<MemoryLink as Link>⟧ connections.items (links steps.items)) }
-    ensures marked { IfOk result (λ steps. marks steps.items ≡ marks_of comings.now) }
+    ensures fresh { IfOk result (λ steps. AreFresh ⟦<MemoryLink as Link>⟧ 0 connections.items (links steps.items)) }
+    ensures answers { IfOk result (λ steps. map coming_of steps.items ≡ comings.now) }
 {
     let mut steps = Vec::with_capacity(alloc, comings.len())?;
     let mut rest = VecDeque::from_vec(connections);

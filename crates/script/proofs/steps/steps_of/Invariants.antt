@@ -5,7 +5,7 @@ use Rattle.script.proofs.steps.steps_of.Given as goal
 
 abbrev pub invariant-loop-coming : goal.invariant-loop-coming
 invariant-loop-coming l = record {
-  gone : Gone ghosts l.comings l.fn.connections.items l.coming-index l.steps.items l.rest.items;
+  gone : Gone ghosts l.comings l.fn.connections.items l.coming-index l.name l.steps.items l.rest.items;
   named : l.name + length l.rest.items ≡ length l.fn.connections.items;
   as_many : vec_len l.steps ≡ l.coming-index;
   room : length l.comings ≤ vec_capacity l.steps;
