@@ -34,6 +34,10 @@ check "a refused policy" 4 'startup refused: `allowed_origin` argument must not 
 check "the version" 0 "dongurapi 0.1.0" /dev/null --version
 check "words that are no form" 2 "usage: replay | listen ADDR N | generate N K" /dev/null replay now
 check "a form that is not built yet" 2 "usage: replay | listen ADDR N | generate N K" /dev/null listen 127.0.0.1:0 1
+check "connections that are made" 0 "$(printf 'connections 1\nrequests 3\nserved 1\nanswer-bytes 614\nend drained')" /dev/null generate 1 1
+check "others, from another seed" 0 "$(printf 'connections 1\nrequests 1\nserved 1\nanswer-bytes 257\nend drained')" /dev/null generate 1 2
+check "no connections" 2 "usage: replay | listen ADDR N | generate N K" /dev/null generate 0 1
+check "a number with a zero before it" 2 "usage: replay | listen ADDR N | generate N K" /dev/null listen 127.0.0.1:80 01
 check "no words" 2 "usage: replay | listen ADDR N | generate N K" /dev/null
 check "an empty script" 4 "startup refused: no listener" /dev/null replay
 check "no script" 3 "script line 3 is not understood" "$top/README.md" replay
@@ -42,9 +46,18 @@ trap 'rm -rf "$work"' EXIT
 head -c 16777217 /dev/zero | tr '\0' '#' > "$work/long.script"
 check "a script that is too long" 3 "script is longer than 16777216 bytes" "$work/long.script" replay
 case $("$top/dongurapi" --help) in
-    *"usage: dongurapi replay"*"8 a worker could not be started") passed=$((passed + 1)) ;;
+    *"usage: dongurapi replay"*"dongurapi generate N K"*"8 a worker could not be started") passed=$((passed + 1)) ;;
     *) failed=$((failed + 1)) && echo "failed: the help" ;;
 esac
+# Ten thousand connections, twice: the same bytes.
+"$top/dongurapi" generate 10000 7 > "$work/first" 2> /dev/null
+if [ "$(head -n 1 "$work/first")" = "connections 10000" ] && [ "$(sed -n 3p "$work/first")" = "served 10000" ] \
+    && "$top/dongurapi" generate 10000 7 2> /dev/null | cmp -s - "$work/first"; then
+    passed=$((passed + 1))
+else
+    failed=$((failed + 1))
+    printf 'failed: ten thousand connections, twice: %s\n' "$(cat "$work/first")"
+fi
 
 for script in "$top"/checks/cases/*.script; do
     case=${script%.script}
@@ -65,8 +78,8 @@ cp "$top/dongurapi" "$top/crates.txt" "$work/bare"
 built=$("$top/dongurapi" --version 2>&1 > /dev/null)
 bare=$("$work/bare/dongurapi" listen 127.0.0.1:0 1 2>&1)
 note=$("$top/dongurapi" listen 127.0.0.1:0 1 2>&1 > /dev/null)
-if [ -z "$built" ] && [ "$note" = "dongurapi: listen and generate are not built yet" ] \
-    && [ "$bare" = "dongurapi: 'listen' is not built yet; the one form for now is 'replay'" ]; then
+if [ -z "$built" ] && [ "$note" = "dongurapi: listen is not built yet" ] \
+    && [ "$bare" = "dongurapi: 'listen' is not built yet; the forms for now are 'replay' and 'generate'" ]; then
     passed=$((passed + 1))
 else
     failed=$((failed + 1))

@@ -1,9 +1,9 @@
 #!/usr/bin/env bash
 # Every refused allocation ends as want of memory. Replays each example and each script of `checks/cases`, but those whose
-# bytes come one by one and that come whole in another, and runs each test, with its first allocation refused, then with its
-# second one, and so on, until a run makes so few that none is refused, at most 500 times. A run of the program must end as
-# the whole one, with status 7, with 8 where a thread found no memory, or with a report that shows `memory`; a run of a test must
-# pass, or end for want of memory.
+# bytes come one by one and that come whole in another, makes and serves one connection, and runs each test: with its first
+# allocation refused, then with its second one, and so on, until a run makes so few that none is refused, at most 500 times. A
+# run of the program must end as the whole one, with status 7, with 8 where a thread found no memory, or with a report that
+# shows `memory` or a summary that tells of it; a run of a test must pass, or end for want of memory.
 # It prints how many were refused, and fails where a run ends otherwise.
 #
 # It tries the program and the tests that `rt ci` has built. A small library that is loaded before the C library refuses
@@ -50,9 +50,9 @@ def replay_is_allowed(whole):
         return (status, text) in (whole, (7, "out of memory\n"), (8, "no worker could be started\n")) or status == 0 and shows_memory(text)
     return is_allowed
 
-# A line of a connection that ended as `memory`, or the last line `end memory`.
+# A line of a connection that ended as `memory`, a summary of one connection that wasn't served, or the last line `end memory`.
 def shows_memory(text):
-    return bool(re.search(r"(?m)^\d+\.\d+ memory |^end memory$", text))
+    return bool(re.search(r"(?m)^\d+\.\d+ memory |^served 0$|^end memory$", text))
 
 # A test ends by an error of memory.
 ERROR = re.compile(r"(?m)^[Ee]rror: .*(?:Memory|Alloc)")
@@ -69,6 +69,10 @@ for script in scripts if os.path.exists(program) else []:
         whole = subprocess.run([program, "replay"], stdin=stdin, capture_output=True)
     allowed = replay_is_allowed((whole.returncode, whole.stdout.decode()))
     runs.append((os.path.relpath(script, top), [program, "replay"], script, allowed))
+if os.path.exists(program):
+    made = [program, "generate", "1", "1"]
+    whole = subprocess.run(made, capture_output=True)
+    runs.append((" ".join(made[1:]), made, "/dev/null", replay_is_allowed((whole.returncode, whole.stdout.decode()))))
 for tests in sorted(glob.glob(f"{top}/crates/*/out/*_tests")):
     listed = subprocess.run([tests, "--list"], capture_output=True, text=True).stdout
     for name in re.findall(r"(?m)^(\S+): test$", listed):

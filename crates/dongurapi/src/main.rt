@@ -1,12 +1,13 @@
-//! Serves the connections of a script over links in memory, and prints a report.
+//! Serves the connections of a script, or connections that it makes, over links in memory, and prints a report or a summary.
 #![tactic(auto)]
 
-ghost use Rattle.std.specs.Prelude.{◌≡◌, None};
-ghost use Rattle.script.specs.Words.{IsReplay};
+ghost use Rattle.std.specs.Prelude.{◌≡◌, None, Some};
+ghost use Rattle.server_program.specs.Forms.{form_of};
+ghost use Rattle.server_program.specs.declared.form.Form.{Form};
 
 use command_line::{print, words_of};
 use server_edge::{SystemClock, ThreadSpawner};
-use server_program::{Streams, run};
+use server_program::{Streams, form_of, run};
 use service_core::Octets;
 use std::alloc::{AllocError, Global};
 use std::process::ExitCode;
@@ -15,9 +16,10 @@ const HELP: &str = "\
 dongurapi serves connections over HTTP/1.1 under a policy on cross-origin requests.
 
 usage: dongurapi replay < SCRIPT
+       dongurapi generate N K
        dongurapi --help | --version
 
-`listen ADDR N` and `generate N K`, which the usage of status 2 names too, are not built yet.
+`listen ADDR N`, which the usage of status 2 names too, is not built yet.
 
 replay   reads a script of connections from standard input, serves each over a link in memory, by
          workers on threads, and prints what was written on it. Lines of a script: `listener`; `conn PEER`
@@ -27,6 +29,10 @@ replay   reads a script of connections from standard input, serves each over a l
          `any-method`, `methods A ..`, `any-header`, `header T`, `headers A ..`, `expose-any`, `expose A ..`,
          `max-age N|none`, `wildcard`, `credentials`, `no-vary`, `no-preflight`, `block`. Empty lines and
          lines that begin with `#` are skipped. docs/SCRIPT.md has every line.
+
+generate makes N connections, from 1 to 100,000, from the seed K, from 0 to 2,147,483,647, serves them on
+         four workers, and prints how many connections, requests, served connections and bytes of
+         answers there were. The same numbers make the same bytes.
 
 status   0 served; 2 the words are none of these; 3 a line of the script is not understood, or the
          script is too long; 4 the script names no listener, or its policy is refused; 5 a read failed;
@@ -47,8 +53,11 @@ fn given_words(rt: &HostRuntime, alloc: Global) -> Result<Vec<Octets>, AllocErro
 
 // What the one word asks for beside the forms of `run`, which it leaves alone.
 fn asked(words: &[Octets]) -> Option<&'static str>
-    ensures { IsReplay words.now → result ≡ None }
+    ensures { (form : Form) → form_of words.now ≡ Some form → result ≡ None }
 {
+    if form_of(words).is_some() {
+        return None;
+    }
     match words {
         [word] if word.as_bytes() == b"--help".as_slice() => Some(HELP),
         [word] if word.as_bytes() == b"--version".as_slice() => Some(VERSION),
@@ -56,12 +65,10 @@ fn asked(words: &[Octets]) -> Option<&'static str>
     }
 }
 
-// Whether the words begin a form that the usage names and that is not built yet.
+// Whether the words begin the form that the usage names and that is not built yet.
 fn is_yet_to_come(words: &[Octets]) -> bool {
     match words {
-        [word, ..] => {
-            word.as_bytes() == b"listen".as_slice() || word.as_bytes() == b"generate".as_slice()
-        }
+        [word, ..] => word.as_bytes() == b"listen".as_slice(),
         [] => false,
     }
 }
@@ -76,7 +83,7 @@ fn main(rt: HostRuntime) -> ExitCode {
     }
     if is_yet_to_come(&words) {
         // (a note for the reader alone: what is answered is the usage)
-        let _ = eprintln!(rt; "dongurapi: listen and generate are not built yet");
+        let _ = eprintln!(rt; "dongurapi: listen is not built yet");
     }
     let Ok(mut spawner) = ThreadSpawner::new(alloc) else {
         return ExitCode::from(print(&rt, OUT_OF_MEMORY, 7));

@@ -3,7 +3,9 @@
 use crate::shown::{hold, holds};
 use server_edge::ScriptSpawner;
 use server_jobs::StepClock;
-use server_program::{MemorySink, MemorySource, a_good_script_is_served, run};
+use server_program::{
+    MemorySink, MemorySource, a_good_script_is_served, connections_that_are_made_are_served, run,
+};
 use server_run::Host;
 use service_core::Octets;
 use std::alloc::{AllocError, AllocGlobal, Global};
@@ -120,6 +122,15 @@ fn tells_memory(got: &[u8]) -> bool {
     got.starts_with(b"out of mem".as_slice())
         || got.starts_with(b"0.0 memory ".as_slice())
         || got.ends_with(b"end memory\n".as_slice())
+        || sums_up_none(got)
+}
+
+// Whether a summary of one connection tells that it wasn't served.
+fn sums_up_none(got: &[u8]) -> bool {
+    got.starts_with(b"connections 1\nrequests ".as_slice())
+        && got
+            .windows(10)
+            .any(|part| part == b"\nserved 0\n".as_slice())
 }
 
 // Whether a thread found no memory, in a run whose starts are not to be refused.
@@ -196,6 +207,7 @@ fn words_that_are_no_form_are_answered_with_the_usage(rt: HostRuntime) -> Result
             ends(&rt, of_no_form(&["replay", "now"])),
             ends(&rt, of_no_form(&[])),
             ends(&rt, of_no_form(&["--help"])),
+            ends(&rt, of_no_form(&["generate", "0", "1"])),
         ],
     )
 }
@@ -348,4 +360,51 @@ const NOT_FOUND_TOLD: &str =
 #[test]
 fn a_status_is_answered_alone(rt: HostRuntime) -> Result<(), Fail> {
     holds(&rt, ends(&rt, of_script(NOT_FOUND, NOT_FOUND_TOLD)))
+}
+
+// The run that makes one connection from this seed, whose source fails at once, since nothing is read.
+fn of_made<'a>(words: &'a [&'a str], write: u64, start: u64, wanted: (u8, &'a str)) -> Row<'a> {
+    let faults = Faults {
+        read: 0,
+        write,
+        start,
+        room: 4096,
+    };
+    of_listener(words, faults, wanted)
+}
+
+const FROM_ONE: &str = "connections 1\nrequests 3\nserved 1\nanswer-bytes 614\nend drained\n";
+
+const FROM_TWO: &str = "connections 1\nrequests 1\nserved 1\nanswer-bytes 257\nend drained\n";
+
+#[test]
+fn connections_that_are_made_are_served_and_summed_up(rt: HostRuntime) -> Result<(), Fail> {
+    let (one, two) = (["generate", "1", "1"], ["generate", "1", "2"]);
+    hold(
+        &rt,
+        &[
+            ends(&rt, of_made(&one, NEVER, NEVER, (0, FROM_ONE))),
+            ends(&rt, of_made(&two, NEVER, NEVER, (0, FROM_TWO))),
+        ],
+    )
+}
+
+#[test]
+fn a_summary_that_cannot_be_written_is_told_and_so_is_a_worker_that_cannot_start(
+    rt: HostRuntime,
+) -> Result<(), Fail> {
+    let one = ["generate", "1", "1"];
+    hold(
+        &rt,
+        &[
+            ends(&rt, of_made(&one, 0, NEVER, (6, ""))),
+            ends(&rt, of_made(&one, NEVER, 3, (8, NO_WORKER))),
+            ends(&rt, of_made(&one, NEVER, 4, (0, FROM_ONE))),
+        ],
+    )
+}
+
+#[test]
+fn the_law_of_connections_that_are_made_can_be_called() {
+    connections_that_are_made_are_served::<MemorySource, MemorySink, ScriptSpawner>();
 }

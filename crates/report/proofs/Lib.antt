@@ -1,3 +1,5 @@
 pub mod Lines
 pub mod Placing
 pub mod Rising
+pub mod Sorting
+pub mod Summing

@@ -5,6 +5,8 @@ mod entries;
 mod hex;
 mod peer_words;
 mod report;
+mod summary;
 
 pub use peer_words::peer_text;
 pub use report::report_text;
+pub use summary::{short_summary_text, summary_text};

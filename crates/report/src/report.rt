@@ -23,7 +23,7 @@ pub fn report_text(
     Ok(out)
 }
 
-fn end_line(end: End) -> &'static [u8]
+pub(crate) fn end_line(end: End) -> &'static [u8]
     ensures { result.now ≡ end_line end }
 {
     match end {

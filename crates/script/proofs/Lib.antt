@@ -4,7 +4,6 @@ pub mod Counted
 pub mod Lines
 pub mod Numbers
 pub mod Offered
-pub mod OneWord
 pub mod Texts
 pub mod Plainness
 pub mod Ranges

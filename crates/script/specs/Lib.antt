@@ -5,6 +5,5 @@ pub mod PolicyText
 pub mod Plain
 pub mod Plan
 pub mod Script
-pub mod Words
 pub mod Planned
 pub mod Ranges

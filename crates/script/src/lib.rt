@@ -16,7 +16,6 @@ mod script_listener;
 mod setting;
 mod steps;
 mod text;
-mod words;
 
 pub use coming::Coming;
 pub use connection::Connection;
@@ -30,5 +29,4 @@ pub use reading::{MAX_SCRIPT, Reading, read_script};
 pub use script::Script;
 pub use script_listener::ScriptListener;
 pub use setting::{SettingLine, Settings};
-pub use text::PlainText;
-pub use words::is_replay;
+pub use text::{PlainText, number_in, number_to};

@@ -55,7 +55,7 @@ module _ (site : Site) (upgrades : site.echoes_upgrades ≡ false) where
   served_or_memory planned goes outcome.Memory written shows = inl refl
 
   -- of all connections
-  all_served : (connections : List Planned) (told : List Told) → All GoesOn connections → AreTold site connections told → length told ≡ length connections
+  pub all_served : (connections : List Planned) (told : List Told) → All GoesOn connections → AreTold site connections told → length told ≡ length connections
       → Any IsOfMemory told ⊎ (told ≡ map (λ planned. (outcome.Served, (answers_to site planned).0)) connections)
   all_served [] [] go are many = inr refl
   all_served [] (t ∷ told) go are many = absurd are
@@ -85,7 +85,7 @@ abbrev HasMemory : Telling → Type 0
 HasMemory telling = Any IsOfMemory telling.0
 
 module _ (site : Site) (upgrades : site.echoes_upgrades ≡ false) (retry_limit : ℕ) (some : retry_limit ≢ 0) where
-  state_is : (listener : Listening) (telling : Telling) → IsUntroubled listener → IsTelling site retry_limit listener telling → (telling.1 ≡ Open → ⊥) → telling.1 ≡ Ended
+  pub state_is : (listener : Listening) (telling : Telling) → IsUntroubled listener → IsTelling site retry_limit listener telling → (telling.1 ≡ Open → ⊥) → telling.1 ≡ Ended
   state_is listener telling untroubled is opens = by_state telling.1 refl
     where
       by_state : (state : ListenerState) → telling.1 ≡ state → telling.1 ≡ Ended

@@ -1,30 +1,28 @@
 -- Why the program writes no report, and what it writes in its place.
-use Rattle.std.specs.Prelude.{◌≡◌, ◌⊎◌, ◌<◌, ℕ, true, false, List, Option, Some, Ok, Err, length}
+use Rattle.std.specs.Prelude.{◌≡◌, ◌⊎◌, ◌<◌, ⊤, ℕ, true, false, List, Option, Some, Ok, Err, length}
 use Rattle.cors_rules.specs.Refusing.{config_error}
 use Rattle.script.specs.Script.{Plan, is_listening, plan_of}
-use Rattle.script.specs.Words.{IsReplay}
 use Rattle.server_program.specs.Reported.{IsReportOf}
 use Rattle.server_program.specs.Statuses.{IsWholeScript, Starts, bad_line_text, most_of_script, no_listener_text, no_worker_text, out_of_memory_text, read_failed_text, refused_text, too_long_text, usage_text}
 use Rattle.server_program.specs.Stream.{Hands}
 use Rattle.server_program.specs.declared.refusal.Refusal.{Refusal}
 use Rattle.server_program.specs.declared.refusal.Refusal.TheVariants.{Usage, ReadFailed, TooLong, BadLine, NoListener, Policy, NoWorker, Memory}
 
--- the words ask for a script, and the source gave these bytes, which are the whole of it
-pub record IsAsked (words : List (List ℕ)) (before after : Option (List ℕ)) (bytes : List ℕ) : Type 0 where
-  pub form : IsReplay words
+-- the source gave these bytes, which are the whole of a script
+pub record IsAsked (before after : Option (List ℕ)) (bytes : List ℕ) : Type 0 where
   pub handed : Hands before bytes after
   pub whole : IsWholeScript after bytes
 
 -- why no script is read
-abbrev pub IsUnread : List (List ℕ) → Option (List ℕ) → Option (List ℕ) → Type 0 → Refusal → Type 0
-IsUnread words before after read_fault Usage = IsReplay words → ⊥
-IsUnread words before after read_fault ReadFailed = IsReplay words × read_fault
-IsUnread words before after read_fault TooLong = IsReplay words × ((bytes : List ℕ) × Hands before bytes after × (most_of_script < length bytes))
-IsUnread words before after read_fault (BadLine number) = ⊥
-IsUnread words before after read_fault NoListener = ⊥
-IsUnread words before after read_fault (Policy error) = ⊥
-IsUnread words before after read_fault NoWorker = ⊥
-IsUnread words before after read_fault Memory = IsReplay words
+abbrev pub IsUnread : Option (List ℕ) → Option (List ℕ) → Type 0 → Refusal → Type 0
+IsUnread before after read_fault Usage = ⊥
+IsUnread before after read_fault ReadFailed = read_fault
+IsUnread before after read_fault TooLong = (bytes : List ℕ) × Hands before bytes after × (most_of_script < length bytes)
+IsUnread before after read_fault (BadLine number) = ⊥
+IsUnread before after read_fault NoListener = ⊥
+IsUnread before after read_fault (Policy error) = ⊥
+IsUnread before after read_fault NoWorker = ⊥
+IsUnread before after read_fault Memory = ⊤
 
 -- why a script that was read is not served
 abbrev pub IsUnserved : Type 0 → List ℕ → Refusal → Type 0
@@ -35,7 +33,18 @@ IsUnserved start_refused bytes (BadLine number) = plan_of bytes ≡ Err number
 IsUnserved start_refused bytes NoListener = (plan : Plan) × (plan_of bytes ≡ Ok plan) × (is_listening plan ≡ false)
 IsUnserved start_refused bytes (Policy error) = (plan : Plan) × (plan_of bytes ≡ Ok plan) × (is_listening plan ≡ true) × (config_error plan.cors ≡ Some error)
 IsUnserved start_refused bytes NoWorker = start_refused × ((plan : Plan) × (plan_of bytes ≡ Ok plan) × (is_listening plan ≡ true))
-IsUnserved start_refused bytes Memory = Unit {0}
+IsUnserved start_refused bytes Memory = ⊤
+
+-- why connections that are made are not served
+abbrev pub IsUnmade : Type 0 → Refusal → Type 0
+IsUnmade start_refused Usage = ⊥
+IsUnmade start_refused ReadFailed = ⊥
+IsUnmade start_refused TooLong = ⊥
+IsUnmade start_refused (BadLine number) = ⊥
+IsUnmade start_refused NoListener = ⊥
+IsUnmade start_refused (Policy error) = ⊥
+IsUnmade start_refused NoWorker = start_refused
+IsUnmade start_refused Memory = ⊤
 
 -- a script that is served by as many workers as were started, and the report of it
 abbrev pub IsServed : (ℕ → Type 0) → List ℕ → List ℕ → Type 0

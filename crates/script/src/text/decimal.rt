@@ -1,10 +1,10 @@
-//! Decimal numbers of a script.
+//! Decimal numbers.
 ghost use Rattle.std.specs.Prelude.{◌≡◌, ◌<◌, ◌≤◌, ◌^◌, IfSome};
 ghost use Rattle.std.specs.List.{list_all};
 ghost use Rattle.script.specs.Numbers.{is_digit, is_decimal, number_behind, number_in, number_to};
 
-/// The decimal number that a text writes, if it is no greater than `most`.
-pub(crate) fn number_to(most: u128, text: &[u8]) -> Option<u128>
+/// The decimal number that a text writes, if it is no greater than `most`. It has digits alone, and no zero before others.
+pub fn number_to(most: u128, text: &[u8]) -> Option<u128>
     requires { most < 2 ^ 64 }
     ensures value { result ≡ number_to most text.now }
     ensures small { IfSome result (λ n. n ≤ most) }
@@ -23,7 +23,7 @@ pub(crate) fn number_to(most: u128, text: &[u8]) -> Option<u128>
 }
 
 /// The decimal number that a text writes, if it is from `least` to `most`.
-fn number_in(least: u128, most: u128, text: &[u8]) -> Option<usize>
+pub fn number_in(least: u128, most: u128, text: &[u8]) -> Option<usize>
     requires { most < 2 ^ 64 }
     ensures value { result ≡ number_in least most text.now }
     ensures small { IfSome result (λ n. n ≤ most) }

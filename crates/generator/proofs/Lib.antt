@@ -1,0 +1,3 @@
+pub mod LastOne
+pub mod More
+pub mod Standing
