@@ -33,7 +33,8 @@ check "a preflight" 0 "$(cat "$top/examples/preflight.report")" "$top/examples/p
 check "a refused policy" 4 'startup refused: `allowed_origin` argument must not be wildcard (`*`)' "$top/examples/refused-policy.script" replay
 check "the version" 0 "dongurapi 0.1.0" /dev/null --version
 check "words that are no form" 2 "usage: replay | listen ADDR N | generate N K" /dev/null replay now
-check "a form that is not built yet" 2 "usage: replay | listen ADDR N | generate N K" /dev/null listen 127.0.0.1:0 1
+check "an address that is none" 9 "cannot listen" /dev/null listen nowhere 1
+check "no connection to wait for" 2 "usage: replay | listen ADDR N | generate N K" /dev/null listen 127.0.0.1:0 0
 check "connections that are made" 0 "$(printf 'connections 1\nrequests 3\nserved 1\nanswer-bytes 614\nend drained')" /dev/null generate 1 1
 check "others, from another seed" 0 "$(printf 'connections 1\nrequests 1\nserved 1\nanswer-bytes 257\nend drained')" /dev/null generate 1 2
 check "no connections" 2 "usage: replay | listen ADDR N | generate N K" /dev/null generate 0 1
@@ -46,7 +47,7 @@ trap 'rm -rf "$work"' EXIT
 head -c 16777217 /dev/zero | tr '\0' '#' > "$work/long.script"
 check "a script that is too long" 3 "script is longer than 16777216 bytes" "$work/long.script" replay
 case $("$top/dongurapi" --help) in
-    *"usage: dongurapi replay"*"dongurapi generate N K"*"8 a worker could not be started") passed=$((passed + 1)) ;;
+    *"usage: dongurapi replay"*"dongurapi listen ADDR N"*"dongurapi generate N K"*"9 the address was refused") passed=$((passed + 1)) ;;
     *) failed=$((failed + 1)) && echo "failed: the help" ;;
 esac
 # Ten thousand connections, twice: the same bytes.

@@ -1,10 +1,14 @@
-//! Serves the connections of a script, or connections that it makes, over links in memory, and prints a report or a summary.
+//! Serves the connections of a script or connections that it makes over links in memory, or those that come to an address over
+//! sockets, and prints a report or a summary.
 #![tactic(auto)]
 
 ghost use Rattle.std.specs.Prelude.{◌≡◌, None, Some};
 ghost use Rattle.server_program.specs.Forms.{form_of};
 ghost use Rattle.server_program.specs.declared.form.Form.{Form};
 
+mod announcing;
+
+use crate::announcing::Announcing;
 use command_line::{print, words_of};
 use server_edge::{SystemClock, ThreadSpawner};
 use server_program::{Streams, form_of, run};
@@ -16,10 +20,9 @@ const HELP: &str = "\
 dongurapi serves connections over HTTP/1.1 under a policy on cross-origin requests.
 
 usage: dongurapi replay < SCRIPT
+       dongurapi listen ADDR N
        dongurapi generate N K
        dongurapi --help | --version
-
-`listen ADDR N`, which the usage of status 2 names too, is not built yet.
 
 replay   reads a script of connections from standard input, serves each over a link in memory, by
          workers on threads, and prints what was written on it. Lines of a script: `listener`; `conn PEER`
@@ -30,13 +33,17 @@ replay   reads a script of connections from standard input, serves each over a l
          `max-age N|none`, `wildcard`, `credentials`, `no-vary`, `no-preflight`, `block`. Empty lines and
          lines that begin with `#` are skipped. docs/SCRIPT.md has every line.
 
+listen   binds the TCP address ADDR, as `127.0.0.1:8080`, and serves the connections that come there, until
+         N have come, from 1 to 1,000,000: `Hello world!` to every request, under the permissive policy, on
+         two workers. Standard error tells where it listens, or why it does not.
+
 generate makes N connections, from 1 to 100,000, from the seed K, from 0 to 2,147,483,647, serves them on
          four workers, and prints how many connections, requests, served connections and bytes of
          answers there were. The same numbers make the same bytes.
 
 status   0 served; 2 the words are none of these; 3 a line of the script is not understood, or the
          script is too long; 4 the script names no listener, or its policy is refused; 5 a read failed;
-         6 a write failed; 7 memory ran out; 8 a worker could not be started";
+         6 a write failed; 7 memory ran out; 8 a worker could not be started; 9 the address was refused";
 
 const VERSION: &str = "dongurapi 0.1.0";
 
@@ -65,14 +72,6 @@ fn asked(words: &[Octets]) -> Option<&'static str>
     }
 }
 
-// Whether the words begin the form that the usage names and that is not built yet.
-fn is_yet_to_come(words: &[Octets]) -> bool {
-    match words {
-        [word, ..] => word.as_bytes() == b"listen".as_slice(),
-        [] => false,
-    }
-}
-
 fn main(rt: HostRuntime) -> ExitCode {
     let alloc = rt.alloc();
     let Ok(words) = given_words(&rt, alloc) else {
@@ -80,10 +79,6 @@ fn main(rt: HostRuntime) -> ExitCode {
     };
     if let Some(text) = asked(&words) {
         return ExitCode::from(print(&rt, text, 0));
-    }
-    if is_yet_to_come(&words) {
-        // (a note for the reader alone: what is answered is the usage)
-        let _ = eprintln!(rt; "dongurapi: listen is not built yet");
     }
     let Ok(mut spawner) = ThreadSpawner::new(alloc) else {
         return ExitCode::from(print(&rt, OUT_OF_MEMORY, 7));
@@ -99,5 +94,6 @@ fn main(rt: HostRuntime) -> ExitCode {
         &mut sink,
         &mut clock,
         &mut spawner,
+        &mut Announcing::new(),
     ))
 }

@@ -1,10 +1,12 @@
 //! Runs of the program by words that are no form, of each call of a source or a sink that fails, and of starts that are
 //! refused.
 use crate::shown::{hold, holds};
+use server_bind::MemoryBinder;
 use server_edge::ScriptSpawner;
 use server_jobs::StepClock;
 use server_program::{
-    MemorySink, MemorySource, a_good_script_is_served, connections_that_are_made_are_served, run,
+    MemorySink, MemorySource, a_good_script_is_served, connections_that_are_made_are_served,
+    connections_that_come_are_served, run,
 };
 use server_run::Host;
 use service_core::Octets;
@@ -155,6 +157,7 @@ fn status_of<Ho: Host + 'static>(rt: &Ho, alloc: Global, parts: &mut Parts) -> u
         &mut parts.sink,
         &mut StepClock::new(0, 1),
         &mut parts.spawner,
+        &mut MemoryBinder::new(alloc, Vec::new(alloc)),
     )
 }
 
@@ -406,5 +409,10 @@ fn a_summary_that_cannot_be_written_is_told_and_so_is_a_worker_that_cannot_start
 
 #[test]
 fn the_law_of_connections_that_are_made_can_be_called() {
-    connections_that_are_made_are_served::<MemorySource, MemorySink, ScriptSpawner>();
+    connections_that_are_made_are_served::<MemorySource, MemorySink, ScriptSpawner, MemoryBinder>();
+}
+
+#[test]
+fn the_law_of_connections_that_come_can_be_called() {
+    connections_that_come_are_served::<MemorySource, MemorySink, ScriptSpawner, MemoryBinder>();
 }

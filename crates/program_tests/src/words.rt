@@ -65,6 +65,26 @@ fn generate_has_two_numbers_in_their_ranges(rt: HostRuntime) -> Result<(), Fail>
     )
 }
 
+fn heard(limit: u64) -> Option<Form> {
+    Some(Form::Listen { limit })
+}
+
+#[test]
+fn listen_has_an_address_and_a_number_in_its_range(rt: HostRuntime) -> Result<(), Fail> {
+    let alloc = rt.alloc();
+    hold(
+        &rt,
+        &[
+            ask_for(alloc, &["listen", "127.0.0.1:8080", "1"], heard(1)),
+            ask_for(alloc, &["listen", "", "1000000"], heard(1_000_000)),
+            ask_for(alloc, &["listen", "127.0.0.1:8080", "0"], None),
+            ask_for(alloc, &["listen", "127.0.0.1:8080", "1000001"], None),
+            ask_for(alloc, &["listen", "127.0.0.1:8080"], None),
+            ask_for(alloc, &["listen", "127.0.0.1:80", "01"], None),
+        ],
+    )
+}
+
 #[test]
 fn numbers_of_other_forms_are_none(rt: HostRuntime) -> Result<(), Fail> {
     let alloc = rt.alloc();

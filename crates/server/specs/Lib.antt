@@ -1,4 +1,5 @@
 pub mod Accepting
+pub mod Binding
 pub mod Failing
 pub mod Joining
 pub mod Rows

@@ -2,6 +2,8 @@
 #![tactic(auto)]
 
 mod accepting;
+mod bind_error;
+mod binding;
 mod builder;
 mod building;
 mod joining;
@@ -15,6 +17,7 @@ mod starting;
 mod states;
 mod unstarted;
 
+pub use bind_error::BindError;
 pub use builder::ServerBuilder;
 pub use building::new;
 pub use server::Server;

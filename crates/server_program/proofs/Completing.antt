@@ -1,8 +1,9 @@
 -- A good script is served.
 use Rattle.std.proofs.Common.{◌≡◌, ◌≢◌, ◌≤◌, ◌⊎◌, ℕ, zero, suc, List, Option, Result, Ok, Err, length, inl, inr, refl, subst, arith}
+use Rattle.listening.specs.declared.heard.Heard.{Heard}
 use Rattle.script.specs.Script.{Plan, plan_of}
 use Rattle.server_program.specs.Reported.{IsReportOf}
-use Rattle.server_program.specs.Statuses.{SaysOfGenerate, SaysOfReplay, StartRefused, Starts, Written, most_of_script}
+use Rattle.server_program.specs.Statuses.{IsHeard, SaysOfGenerate, SaysOfListen, SaysOfReplay, StartRefused, Starts, Written, most_of_script}
 use Rattle.server_program.specs.Stream.{Gains}
 use Rattle.server_program.specs.Summary.{IsSummaryOf}
 
@@ -68,6 +69,17 @@ module _ (before after : Option (List ℕ)) (started : ℕ → Type 0) (start_re
     | inl at ↦ inl (at, (says.summary at).1)
     | inr (inl at) ↦ inr at
     | inr (inr at) ↦ absurd (starting (says.no_worker at).0)
+  ]
+
+-- and connections that come
+module _ (before after : Option (List ℕ)) (started : ℕ → Type 0) (start_refused unrefused bind_refused : Type 0) (listened : Heard → Type 0) (status : ℕ) (text : List ℕ)
+    (says : SaysOfListen before after started start_refused unrefused bind_refused listened status text) (starting : start_refused → ⊥) (binding : bind_refused → ⊥) where
+  pub heard_or_memory : ((status ≡ 0) × IsHeard listened text) ⊎ (status ≡ 7)
+  heard_or_memory = elim says.known [
+    | inl at ↦ inl (at, (says.summary at).1)
+    | inr (inl at) ↦ inr at
+    | inr (inr (inl at)) ↦ absurd (starting (says.no_worker at).0)
+    | inr (inr (inr at)) ↦ absurd (binding (says.cannot_listen at).0)
   ]
 
 module _ (before after : Option (List ℕ)) (write_fault : Type 0) (status : ℕ) (text : List ℕ) (result : ℕ)

@@ -3,10 +3,10 @@ use Rattle.std.specs.Prelude.{◌≡◌, ◌⊎◌, ◌<◌, ⊤, ℕ, true, fal
 use Rattle.cors_rules.specs.Refusing.{config_error}
 use Rattle.script.specs.Script.{Plan, is_listening, plan_of}
 use Rattle.server_program.specs.Reported.{IsReportOf}
-use Rattle.server_program.specs.Statuses.{IsWholeScript, Starts, bad_line_text, most_of_script, no_listener_text, no_worker_text, out_of_memory_text, read_failed_text, refused_text, too_long_text, usage_text}
+use Rattle.server_program.specs.Statuses.{IsWholeScript, Starts, bad_line_text, cannot_listen_text, most_of_script, no_listener_text, no_worker_text, out_of_memory_text, read_failed_text, refused_text, too_long_text, usage_text}
 use Rattle.server_program.specs.Stream.{Hands}
 use Rattle.server_program.specs.declared.refusal.Refusal.{Refusal}
-use Rattle.server_program.specs.declared.refusal.Refusal.TheVariants.{Usage, ReadFailed, TooLong, BadLine, NoListener, Policy, NoWorker, Memory}
+use Rattle.server_program.specs.declared.refusal.Refusal.TheVariants.{Usage, ReadFailed, TooLong, BadLine, NoListener, Policy, NoWorker, CannotListen, Memory}
 
 -- the source gave these bytes, which are the whole of a script
 pub record IsAsked (before after : Option (List ℕ)) (bytes : List ℕ) : Type 0 where
@@ -22,6 +22,7 @@ IsUnread before after read_fault (BadLine number) = ⊥
 IsUnread before after read_fault NoListener = ⊥
 IsUnread before after read_fault (Policy error) = ⊥
 IsUnread before after read_fault NoWorker = ⊥
+IsUnread before after read_fault CannotListen = ⊥
 IsUnread before after read_fault Memory = ⊤
 
 -- why a script that was read is not served
@@ -33,6 +34,7 @@ IsUnserved start_refused bytes (BadLine number) = plan_of bytes ≡ Err number
 IsUnserved start_refused bytes NoListener = (plan : Plan) × (plan_of bytes ≡ Ok plan) × (is_listening plan ≡ false)
 IsUnserved start_refused bytes (Policy error) = (plan : Plan) × (plan_of bytes ≡ Ok plan) × (is_listening plan ≡ true) × (config_error plan.cors ≡ Some error)
 IsUnserved start_refused bytes NoWorker = start_refused × ((plan : Plan) × (plan_of bytes ≡ Ok plan) × (is_listening plan ≡ true))
+IsUnserved start_refused bytes CannotListen = ⊥
 IsUnserved start_refused bytes Memory = ⊤
 
 -- why connections that are made are not served
@@ -44,6 +46,7 @@ IsUnmade start_refused (BadLine number) = ⊥
 IsUnmade start_refused NoListener = ⊥
 IsUnmade start_refused (Policy error) = ⊥
 IsUnmade start_refused NoWorker = start_refused
+IsUnmade start_refused CannotListen = ⊥
 IsUnmade start_refused Memory = ⊤
 
 -- a script that is served by as many workers as were started, and the report of it
@@ -62,4 +65,5 @@ Tells (BadLine number) status text = ((status ≡ 3) × (text ≡ bad_line_text 
 Tells NoListener status text = (status ≡ 4) × (text ≡ no_listener_text)
 Tells (Policy error) status text = ((status ≡ 4) × (text ≡ refused_text error)) ⊎ IsMemory status text
 Tells NoWorker status text = (status ≡ 8) × (text ≡ no_worker_text)
+Tells CannotListen status text = (status ≡ 9) × (text ≡ cannot_listen_text)
 Tells Memory status text = IsMemory status text

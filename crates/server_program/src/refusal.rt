@@ -1,4 +1,4 @@
-//! Why the program writes no report.
+//! Why the program writes no report and no summary.
 ghost use Rattle.std.specs.Prelude.{◌≡◌, IfOk};
 ghost use Rattle.server_program.specs.Refusals.{Tells};
 ghost use Rattle.server_program.specs.Statuses.{bad_line_text, refused_text};
@@ -20,7 +20,9 @@ const NO_LISTENER: &[u8] = b"startup refused: no listener\n";
 
 const NO_WORKER: &[u8] = b"no worker could be started\n";
 
-/// Why the program writes no report.
+const CANNOT_LISTEN: &[u8] = b"cannot listen\n";
+
+/// Why the program writes no report and no summary.
 #[derive(Drop)]
 pub(crate) enum Refusal {
     /// The words are no form.
@@ -37,6 +39,8 @@ pub(crate) enum Refusal {
     Policy(ConfigError),
     /// A worker could not be started.
     NoWorker,
+    /// The binder refused the address.
+    CannotListen,
     /// Memory ran out.
     Memory,
 }
@@ -54,6 +58,7 @@ impl Refusal {
             Refusal::NoListener => Ending::fixed(4, NO_LISTENER),
             Refusal::Policy(error) => Ending::or_memory(4, refused(alloc, *error)),
             Refusal::NoWorker => Ending::fixed(8, NO_WORKER),
+            Refusal::CannotListen => Ending::fixed(9, CANNOT_LISTEN),
             Refusal::Memory => Ending::memory(),
         }
     }

@@ -1,0 +1,4 @@
+pub mod Bound
+pub mod Counting
+pub mod Ending
+pub mod Hearing

@@ -1,0 +1,3 @@
+pub mod Limiting
+pub mod Limits
+pub mod Stock

@@ -1,0 +1,4 @@
+pub mod Answers
+pub mod Binding
+pub mod Fresh
+pub mod Peers
