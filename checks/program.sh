@@ -1,8 +1,9 @@
 #!/usr/bin/env bash
 # The program as a newcomer starts it: the examples, the help and the version, words that are no form, a script that is
 # not understood, and one that is too long. Each must print what stands here and end with its status. Then each script of
-# checks/cases: it must print the report beside it, byte for byte, and end with the status beside it, or with 0. Last the
-# launcher itself: it runs the program that stands here as it is, and asks for a build where there is none.
+# checks/cases: it must print the report beside it, byte for byte, and end with the status beside it, or with 0. Last what is
+# said on standard error: nothing by the launcher where the program is built, by the program why it cannot listen, and by the
+# launcher that only a built program can.
 set -u
 top=$(cd "$(dirname "${BASH_SOURCE[0]}")/.." && pwd)
 passed=0
@@ -73,18 +74,18 @@ for script in "$top"/checks/cases/*.script; do
         printf 'failed: %s: status %s, %s\n' "$(basename "$case")" "$ended" "$(head -c 2000 "$work/report")"
     fi
 done
-# What it says on standard error where the program is built, and where nothing is.
+# What is said on standard error.
 mkdir -p "$work/bare/crates/dongurapi/src"
 cp "$top/dongurapi" "$top/crates.txt" "$work/bare"
 built=$("$top/dongurapi" --version 2>&1 > /dev/null)
+reason=$("$top/dongurapi" listen nowhere 1 2>&1 > /dev/null)
 bare=$("$work/bare/dongurapi" listen 127.0.0.1:0 1 2>&1)
-note=$("$top/dongurapi" listen 127.0.0.1:0 1 2>&1 > /dev/null)
-if [ -z "$built" ] && [ "$note" = "dongurapi: listen is not built yet" ] \
-    && [ "$bare" = "dongurapi: 'listen' is not built yet; the forms for now are 'replay' and 'generate'" ]; then
+if [ -z "$built" ] && [ "$reason" = "dongurapi: cannot listen at nowhere: not an address" ] \
+    && [ "$bare" = "dongurapi: not built, and what is not built can't wait for connections; './dongurapi build' proves and builds the program" ]; then
     passed=$((passed + 1))
 else
     failed=$((failed + 1))
-    printf 'failed: the launcher: %s; %s; %s\n' "$built" "$note" "$bare"
+    printf 'failed: the launcher: %s; %s; %s\n' "$built" "$reason" "$bare"
 fi
 echo "$passed passed, $failed failed"
 [ "$failed" = 0 ]
