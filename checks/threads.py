@@ -9,23 +9,13 @@ import re
 import subprocess
 import sys
 
-top = os.path.dirname(os.path.dirname(os.path.abspath(__file__)))
-launcher = os.path.join(top, "dongurapi")
-program = os.path.join(top, "crates", "dongurapi", "out", "dongurapi")
+sys.dont_write_bytecode = True
+from clients import PROGRAM, TOP, check, sum_up
+
+program = os.path.join(TOP, "crates", "dongurapi", "out", "dongurapi")
 GET = "give GET / HTTP/1.1\\r\\n\\r\\n"
 VARY = "vary: Origin, Access-Control-Request-Method, Access-Control-Request-Headers\\r\\n"
 LINE = re.compile(r'(\d+)\.(\d+) ([a-z-]+) "(.*)"')
-passed = failed = 0
-
-
-def check(shown, holds, text=""):
-    """Counts what is shown."""
-    global passed, failed
-    if holds:
-        passed += 1
-    else:
-        failed += 1
-        print(f"failed: {shown}: {text[:400]}")
 
 
 def replayed(lines):
@@ -107,14 +97,14 @@ def is_fair(report, counts, reads, writes):
     return lines[len(places) :] == [f"listener {token} ended" for token in range(len(counts))] + ["end drained"]
 
 
-if subprocess.run([launcher, "--version"], stdout=subprocess.DEVNULL).returncode != 0:
+if subprocess.run([PROGRAM, "--version"], stdout=subprocess.DEVNULL).returncode != 0:
     sys.exit(1)
-if not os.path.exists(program) and subprocess.run([launcher, "build"], stdout=subprocess.DEVNULL).returncode != 0:
+if not os.path.exists(program) and subprocess.run([PROGRAM, "build"], stdout=subprocess.DEVNULL).returncode != 0:
     sys.exit(1)
 
 for workers in (1, 2, 8, 512):
     status, report = replayed(three_peers(workers))
-    check(f"three connections on {workers} workers", (status, report) == (0, three_lines()), report)
+    check(f"three connections on {workers} workers", (status, report) == (0, three_lines()), report[:400])
 
 alone = replayed(many(1, 65536))
 check("2,000 connections on one worker", alone[0] == 0 and alone[1].count(" served ") == 2000, alone[1][-200:])
@@ -126,7 +116,6 @@ for workers in (1, 3, 8):
 for seed in range(20):
     script, counts, reads, writes = troubled(seed)
     status, report = replayed(script)
-    check(f"links that wait and fail, seed {seed}", status == 0 and is_fair(report, counts, reads, writes), report)
+    check(f"links that wait and fail, seed {seed}", status == 0 and is_fair(report, counts, reads, writes), report[:400])
 
-print(f"{passed} passed, {failed} failed")
-sys.exit(failed != 0)
+sum_up()

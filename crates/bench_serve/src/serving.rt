@@ -6,6 +6,7 @@ use crate::size::Size;
 use script::{Script, build_policy};
 use script_service::ReplayFactory;
 use server::Server;
+use server_commands::NoCommands;
 use server_edge::{SystemClock, ThreadSpawner};
 use server_run::{End, Entry, Host, KeepAll, Outcome};
 use service_core::Ended;
@@ -62,7 +63,16 @@ fn serve<Ho: Host + TimeSource + 'static>(
     };
     let mut clock = SystemClock::new(rt);
     let mut spawner = ThreadSpawner::new(alloc)?;
-    match server.serve(rt, alloc, &mut listeners, &mut clock, &mut spawner, done) {
+    let mut none = NoCommands::new();
+    match server.serve(
+        rt,
+        alloc,
+        &mut listeners,
+        &mut none,
+        &mut clock,
+        &mut spawner,
+        done,
+    ) {
         Ok(report) if report.end == End::Drained => Ok(()),
         _ => Err(Failure::Wrong),
     }

@@ -12,23 +12,16 @@ pub(crate) struct Announcing {
 }
 
 impl Announcing {
-    /// It has bound nothing.
-    pub(crate) fn new() -> Announcing {
-        Announcing {
-            binder: MioBinder::new(),
-        }
+    /// What it tells of is bound by this binder.
+    pub(crate) fn new(binder: MioBinder) -> Announcing {
+        Announcing { binder }
     }
 
-    // Tells where it listens, or why it does not.
-    fn tell<R: Eprint>(&self, rt: &R, addr: &str, is_bound: bool) {
-        if !is_bound {
-            self.tell_refusal(rt, addr);
-            return;
+    // Tells at which address and port it listens.
+    fn tell_port<R: Eprint>(&self, rt: &R) {
+        if let Some(bound) = self.binder.local_addr() {
+            let _ = eprintln!(rt; "dongurapi: listening at {bound}");
         }
-        let _ = match self.binder.local_addr() {
-            Some(bound) => eprintln!(rt; "dongurapi: listening at {bound}"),
-            None => eprintln!(rt; "dongurapi: listening at {addr}"),
-        };
     }
 
     fn tell_refusal<R: Eprint>(&self, rt: &R, addr: &str) {
@@ -47,13 +40,21 @@ impl Binder for Announcing {
 
     fn tcp<Ho: Host>(&mut self, rt: &Ho, addr: &str) -> Result<SocketListener, BindFailed> {
         let bound = self.binder.tcp(rt, addr);
-        self.tell(rt, addr, bound.is_ok());
+        match &bound {
+            Ok(_) => self.tell_port(rt),
+            Err(_) => self.tell_refusal(rt, addr),
+        }
         bound
     }
 
     fn unix<Ho: Host>(&mut self, rt: &Ho, addr: &str) -> Result<SocketListener, BindFailed> {
         let bound = self.binder.unix(rt, addr);
-        self.tell(rt, addr, bound.is_ok());
+        match &bound {
+            Ok(_) => {
+                let _ = eprintln!(rt; "dongurapi: listening at {addr}");
+            }
+            Err(_) => self.tell_refusal(rt, addr),
+        }
         bound
     }
 

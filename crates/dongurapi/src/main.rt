@@ -10,11 +10,14 @@ mod announcing;
 
 use crate::announcing::Announcing;
 use command_line::{print, words_of};
-use server_edge::{SystemClock, ThreadSpawner};
-use server_program::{Streams, form_of, run};
+use server_edge::{ReactorHost, SystemClock, ThreadSpawner};
+use server_program::{Form, Streams, form_of, run};
+use server_reactor::Reactor;
+use server_sockets::MioBinder;
 use service_core::Octets;
 use std::alloc::{AllocError, Global};
 use std::process::ExitCode;
+use std::sync::Arc;
 
 const HELP: &str = "\
 dongurapi serves connections over HTTP/1.1 under a policy on cross-origin requests.
@@ -72,6 +75,43 @@ fn asked(words: &[Octets]) -> Option<&'static str>
     }
 }
 
+// What the sockets and the threads of a server share, where the words ask for one. Where the system has none to give, each of them
+// asks for news again and again.
+fn reactor_for(rt: &HostRuntime, alloc: Global, words: &[Octets]) -> Option<Arc<Reactor>> {
+    match form_of(words) {
+        Some(Form::Listen { .. }) => Arc::new(alloc, Reactor::new(rt, alloc).ok()?).ok(),
+        _ => None,
+    }
+}
+
+fn share(reactor: &Option<Arc<Reactor>>) -> Option<Arc<Reactor>> {
+    match reactor {
+        Some(reactor) => Arc::try_clone(reactor).ok(),
+        None => None,
+    }
+}
+
+fn host_over(rt: HostRuntime, reactor: Option<Arc<Reactor>>) -> ReactorHost<HostRuntime> {
+    match reactor {
+        Some(reactor) => ReactorHost::over(rt, reactor),
+        None => ReactorHost::new(rt),
+    }
+}
+
+fn spawner_over(alloc: Global, reactor: Option<Arc<Reactor>>) -> Result<ThreadSpawner, AllocError> {
+    match reactor {
+        Some(reactor) => ThreadSpawner::over(alloc, reactor),
+        None => ThreadSpawner::new(alloc),
+    }
+}
+
+fn binder_over(reactor: Option<Arc<Reactor>>) -> MioBinder {
+    match reactor {
+        Some(reactor) => MioBinder::over(reactor),
+        None => MioBinder::new(),
+    }
+}
+
 fn main(rt: HostRuntime) -> ExitCode {
     let alloc = rt.alloc();
     let Ok(words) = given_words(&rt, alloc) else {
@@ -80,20 +120,23 @@ fn main(rt: HostRuntime) -> ExitCode {
     if let Some(text) = asked(&words) {
         return ExitCode::from(print(&rt, text, 0));
     }
-    let Ok(mut spawner) = ThreadSpawner::new(alloc) else {
+    let reactor = reactor_for(&rt, alloc, &words);
+    let Ok(mut spawner) = spawner_over(alloc, share(&reactor)) else {
         return ExitCode::from(print(&rt, OUT_OF_MEMORY, 7));
     };
-    let mut clock = SystemClock::new(&rt);
-    let mut source = Streams::new(&rt);
-    let mut sink = Streams::new(&rt);
+    let host = host_over(rt, share(&reactor));
+    let mut clock = SystemClock::new(&host);
+    let mut source = Streams::new(&host);
+    let mut sink = Streams::new(&host);
+    let mut binder = Announcing::new(binder_over(reactor));
     ExitCode::from(run(
-        &rt,
+        &host,
         alloc,
         &words,
         &mut source,
         &mut sink,
         &mut clock,
         &mut spawner,
-        &mut Announcing::new(),
+        &mut binder,
     ))
 }

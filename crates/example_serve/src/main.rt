@@ -2,14 +2,11 @@
 #![tactic(auto)]
 
 mod connections;
-mod greeter;
-mod greeters;
-mod greeting;
-mod words;
 
 use command_line::print;
 use connections::listeners;
-use greeters::Greeters;
+use greeting_service::Greeters;
+use server_commands::NoCommands;
 use server_edge::{SystemClock, ThreadSpawner};
 use server_run::{Entry, Host, KeepAll, MemoryLink};
 use service_core::Ended;
@@ -57,6 +54,7 @@ where
         rt,
         alloc,
         &mut listeners,
+        &mut NoCommands::new(),
         &mut clock,
         &mut spawner,
         &mut done,

@@ -2,6 +2,7 @@
 use crate::flags::SharedFlags;
 use crate::gate_factory::GateFactory;
 use server::Server;
+use server_commands::NoCommands;
 use server_edge::ThreadSpawner;
 use server_jobs::StepClock;
 use server_run::{
@@ -81,6 +82,7 @@ pub(crate) fn meet<Ho: Host + 'static>(rt: &Ho, alloc: Global) -> Result<bool, A
         rt,
         alloc,
         &mut listeners,
+        &mut NoCommands::new(),
         &mut clock,
         &mut spawner,
         &mut done,

@@ -6,10 +6,10 @@ ghost use Rattle.listening.specs.Listening.{IsUnbound};
 ghost use Rattle.listening.specs.declared.listen_error.ListenError.TheVariants.{Memory};
 
 use crate::listen_error::ListenError;
-use server::{BindError, ServerBuilder};
+use server::BindError;
 use server_bind::Binder;
 use server_run::Host;
-use std::alloc::{AllocError, Global};
+use std::alloc::Global;
 
 /// The listener at a TCP address.
 pub(crate) fn bound_listener<Ho: Host, Bi: Binder>(

@@ -11,7 +11,7 @@ use crate::serving::serve_listener;
 use server_bind::Binder;
 use server_jobs::{Clock, Spawner};
 use server_run::{Host, Listener};
-use std::alloc::{AllocError, Global};
+use std::alloc::Global;
 
 /// Binds a TCP address and serves the connections that come there, at most so many, on two workers: the handler `hello` under the
 /// permissive policy. Their links are closed. Returns how many there were, or why nothing was served.

@@ -1,5 +1,5 @@
 //! The connections of a listener, served.
-ghost use Rattle.std.specs.Prelude.{◌≡◌, ◌≤◌, ◌<◌, ◌^◌, ◌∷◌, [], Err, IfOk, IfErr};
+ghost use Rattle.std.specs.Prelude.{◌≡◌, ◌<◌, ◌^◌, ◌∷◌, [], IfOk, IfErr};
 ghost use Rattle.service_core.specs.Counts.{Rose};
 ghost use Rattle.cors_rules.specs.Building.{permissive};
 ghost use Rattle.script_service.specs.Factories.{RefusesSite, replay_builder, replay_site};
@@ -18,6 +18,7 @@ use script::Script;
 use script_service::ReplayFactory;
 use server::Server;
 use server_bind::{CloseAll, Limited};
+use server_commands::NoCommands;
 use server_jobs::{Clock, Spawner};
 use server_run::{Host, Listener, ServeError};
 use service_core::Ended;
@@ -53,7 +54,16 @@ where
         return Err(ListenError::Memory);
     };
     let mut done = CloseAll::new();
-    match server.serve(rt, alloc, &mut listeners, clock, spawner, &mut done) {
+    let mut none = NoCommands::new();
+    match server.serve(
+        rt,
+        alloc,
+        &mut listeners,
+        &mut none,
+        clock,
+        spawner,
+        &mut done,
+    ) {
         Ok(report) => Ok(Heard {
             connections: done.entries(),
             served: done.served(),

@@ -2,7 +2,7 @@
 use Rattle.std.specs.Prelude.{ℕ, Bool, true, false, List, ◌∷◌, ◌++◌, length, codes, decimal}
 use Rattle.std.specs.List.{count_by, sum_by}
 use Rattle.server_run.specs.declared.outcome.Outcome.{Outcome}
-use Rattle.server_run.specs.declared.outcome.Outcome.TheVariants.{Served, ReadFault, WriteFault, Upgraded, Memory}
+use Rattle.server_run.specs.declared.outcome.Outcome.TheVariants.{Served, ReadFault, WriteFault, Upgraded, Stopped, Memory}
 use Rattle.server_run.specs.declared.report.End.{End}
 use Rattle.report.specs.Report.{end_line}
 use Rattle.report.specs.Told.{Told}
@@ -13,6 +13,7 @@ is_served Served = true
 is_served ReadFault = false
 is_served WriteFault = false
 is_served Upgraded = false
+is_served (Stopped forced) = false
 is_served Memory = false
 
 -- how many of these connections were served

@@ -28,6 +28,8 @@ pub(crate) fn end_line(end: End) -> &'static [u8]
 {
     match end {
         End::Drained => b"end drained\n",
+        End::Stopped { graceful: true } => b"end stopped graceful\n",
+        End::Stopped { graceful: false } => b"end stopped forced\n",
         End::Memory => b"end memory\n",
     }
 }

@@ -1,6 +1,6 @@
 //! The listeners of the tests.
-use server_run::{ListenerStep, MemoryLink, MemoryListener};
-use service_core::Peer;
+use crate::links::{that_ends, that_hangs};
+use server_run::{ListenerStep, MemoryListener};
 use std::alloc::{AllocError, Global};
 
 /// What a listener answers.
@@ -8,37 +8,41 @@ use std::alloc::{AllocError, Global};
 pub(crate) enum Answer {
     /// So many connections, one after the other.
     Give(u64),
+    /// So many connections whose peers never send anything.
+    Hang(u64),
     /// Nothing has come.
     NotYet,
+    /// Nothing has come, so many times.
+    Wait(u64),
     /// One connection failed.
     Skip,
     /// The listener failed.
     Fail,
 }
 
-// A link that gives nothing, named by the token of its listener and by its step.
-fn link_at(alloc: Global, token: usize, step: usize) -> MemoryLink {
-    let name = (token as u64)
+// The name of the link that a listener gives at a step.
+fn name_at(token: usize, step: usize) -> u64 {
+    (token as u64)
         .saturating_mul(100)
-        .saturating_add(step as u64);
-    MemoryLink::new(alloc, name, Peer::Unknown, Vec::new(alloc), Vec::new(alloc))
+        .saturating_add(step as u64)
 }
 
 // How often a listener answers so.
 fn times(answer: Answer) -> u64 {
     match answer {
-        Answer::Give(count) => count,
+        Answer::Give(count) | Answer::Hang(count) | Answer::Wait(count) => count,
         Answer::NotYet | Answer::Skip | Answer::Fail => 1,
     }
 }
 
 // What a listener does at a step, for an answer.
-fn step_of(alloc: Global, token: usize, step: usize, answer: Answer) -> ListenerStep {
+fn step_of(alloc: Global, name: u64, answer: Answer) -> Result<ListenerStep, AllocError> {
     match answer {
-        Answer::Give(_) => ListenerStep::Give(link_at(alloc, token, step)),
-        Answer::NotYet => ListenerStep::NotYet,
-        Answer::Skip => ListenerStep::Skip,
-        Answer::Fail => ListenerStep::Fail,
+        Answer::Give(_) => Ok(ListenerStep::Give(that_ends(alloc, name))),
+        Answer::Hang(_) => Ok(ListenerStep::Give(that_hangs(alloc, name)?)),
+        Answer::NotYet | Answer::Wait(_) => Ok(ListenerStep::NotYet),
+        Answer::Skip => Ok(ListenerStep::Skip),
+        Answer::Fail => Ok(ListenerStep::Fail),
     }
 }
 
@@ -51,16 +55,19 @@ fn steps_of(
     let mut steps = Vec::new(alloc);
     for answer in answers {
         for _ in 0..times(*answer) {
-            let step = step_of(alloc, token, steps.len(), *answer);
-            steps.push(step)?;
+            let name = name_at(token, steps.len());
+            steps.push(step_of(alloc, name, *answer)?)?;
         }
     }
     Ok(steps)
 }
 
-// A listener that does so, at most a thousand steps.
-#[tactic(auto, using(crate::proofs::Links::few_links))]
-fn listener_of(alloc: Global, steps: Vec<ListenerStep>) -> Result<MemoryListener, AllocError> {
+/// A listener that does so, at most a thousand steps.
+#[tactic(auto, using(crate::proofs::ListenerSteps::few_links))]
+pub(crate) fn listener_of(
+    alloc: Global,
+    steps: Vec<ListenerStep>,
+) -> Result<MemoryListener, AllocError> {
     if steps.len() > 1_000 {
         return Err(AllocError);
     }

@@ -4,9 +4,21 @@
 #[cfg(test)]
 mod answer;
 #[cfg(test)]
+mod begun;
+#[cfg(test)]
 mod builder_tests;
 #[cfg(test)]
+mod countdown;
+#[cfg(test)]
 mod end_after;
+#[cfg(test)]
+mod entries;
+#[cfg(test)]
+mod gated;
+#[cfg(test)]
+mod handle_tests;
+#[cfg(test)]
+mod links;
 #[cfg(test)]
 mod log;
 #[cfg(test)]
@@ -16,4 +28,10 @@ mod run_tests;
 #[cfg(test)]
 mod serving;
 #[cfg(test)]
+mod stage;
+#[cfg(test)]
 mod start_tests;
+#[cfg(test)]
+mod stop_tests;
+#[cfg(test)]
+mod stress_tests;

@@ -55,6 +55,8 @@ impl Log {
             Outcome::ReadFault => self.word(" unread"),
             Outcome::WriteFault => self.word(" unwritten"),
             Outcome::Upgraded => self.word(" upgraded"),
+            Outcome::Stopped { forced: false } => self.word(" stopped"),
+            Outcome::Stopped { forced: true } => self.word(" stopped forced"),
             Outcome::Memory => self.lack_memory(),
         }
     }

@@ -1,7 +1,10 @@
 use crate::end_after::EndAfter;
-use server::Server;
+use server::{Server, ServerBuilder};
+use server_commands::GracefulShutdownSignal;
 use server_edge::ScriptSpawner;
 use std::alloc::{AllocError, Global};
+use std::sync::Arc;
+use std::sync::atomic::AtomicU64;
 
 /// How a server is set, and what is refused.
 #[derive(Clone, Copy)]
@@ -20,6 +23,10 @@ pub(crate) struct Plan {
     pub(crate) refused: Option<usize>,
     /// The worker that is not started.
     pub(crate) unstarted: Option<usize>,
+    /// How many seconds a worker has after a graceful stop.
+    pub(crate) timeout: u64,
+    /// How many milliseconds go by from turn to turn.
+    pub(crate) step: u64,
 }
 
 /// Two workers that have room for all connections. Nothing is refused.
@@ -31,6 +38,8 @@ pub(crate) const PLAIN: Plan = Plan {
     before: 0,
     refused: None,
     unstarted: None,
+    timeout: 30,
+    step: 500,
 };
 
 impl Plan {
@@ -43,29 +52,46 @@ impl Plan {
         ]
     }
 
-    // The factory of its services.
-    fn factory(&self) -> EndAfter {
+    /// The factory of its services, which counts there what they begin to serve, and of which none reads before that has come.
+    pub(crate) fn factory(
+        &self,
+        begun: Arc<AtomicU64>,
+        until: Option<GracefulShutdownSignal>,
+    ) -> EndAfter {
         EndAfter {
             before: self.before,
             refused: self.refused,
             token: 0,
+            begun,
+            until,
         }
     }
 
-    /// A server that is set so. The plan has to fit.
-    pub(crate) fn server(&self, alloc: Global) -> Result<Server<EndAfter>, AllocError> {
+    /// A builder that is set so. The plan has to fit.
+    pub(crate) fn builder(&self, alloc: Global) -> Result<ServerBuilder, AllocError> {
         let has_workers = 1 <= self.workers && self.workers <= 512;
         let has_room = 1 <= self.limit && self.limit < u64::MAX;
         let has_places = 1 <= self.ring && self.ring <= 4_096;
-        if !has_workers || !has_room || !has_places || self.retry_limit == 0 {
+        let has_time = self.timeout < 1 << 32;
+        if !has_workers || !has_room || !has_places || !has_time || self.retry_limit == 0 {
             return Err(AllocError);
         }
         let builder = server::new(alloc)?
             .workers(self.workers)
             .max_concurrent_connections(self.limit)
             .ring(self.ring)
-            .retry_limit(self.retry_limit);
-        Ok(builder.run(self.factory()))
+            .retry_limit(self.retry_limit)
+            .shutdown_timeout(self.timeout);
+        Ok(builder)
+    }
+
+    /// A server that is set so, whose services count there what they begin to serve.
+    pub(crate) fn server(
+        &self,
+        alloc: Global,
+        begun: Arc<AtomicU64>,
+    ) -> Result<Server<EndAfter>, AllocError> {
+        Ok(self.builder(alloc)?.run(self.factory(begun, None)))
     }
 
     /// What starts its workers, but one.

@@ -1,60 +1,22 @@
 //! What a run comes to, in words.
 use crate::answer::{Answer, listeners};
 use crate::end_after::EndAfter;
+use crate::entries::{are_numbered, count_of, entry_at};
+use crate::gated::{Gated, Told};
 use crate::log::Log;
 use crate::plan::Plan;
+use crate::stage::Stage;
 use server::Server;
-use server_edge::ScriptSpawner;
-use server_jobs::StepClock;
+use server_commands::{Commands, NoCommands};
 use server_run::{
-    Accepted, End, Entry, Host, KeepAll, Listener, ListenerState, MemoryLink, MemoryListener,
-    Report, ServeError,
+    Accepted, End, Entry, Host, Listener, ListenerState, MemoryLink, MemoryListener, Report,
+    ServeError,
 };
-use service_core::Ended;
 use std::alloc::{AllocError, AllocGlobal, Global};
 use std::process::Abort;
+use std::sync::Arc;
+use std::sync::atomic::AtomicU64;
 use std::test::Fail;
-
-// The entry of the connection at that place of a listener.
-fn entry_at(entries: &[Entry<MemoryLink>], token: usize, place: u64) -> Option<&Entry<MemoryLink>> {
-    for entry in entries {
-        if entry.token == token && entry.place == place {
-            return Some(entry);
-        }
-    }
-    None
-}
-
-// How many connections of a listener have an entry.
-fn count_of(entries: &[Entry<MemoryLink>], token: usize) -> u64 {
-    let mut count: u64 = 0;
-    for entry in entries {
-        if entry.token == token {
-            count = count.saturating_add(1);
-        }
-    }
-    count
-}
-
-// Whether an entry has this number.
-fn is_numbered(entries: &[Entry<MemoryLink>], serial: u64) -> bool {
-    for entry in entries {
-        if entry.serial == serial {
-            return true;
-        }
-    }
-    false
-}
-
-// Whether the serial numbers are all that lie below their count.
-fn are_numbered(entries: &[Entry<MemoryLink>]) -> bool {
-    for serial in 0..entries.len() as u64 {
-        if !is_numbered(entries, serial) {
-            return false;
-        }
-    }
-    true
-}
 
 // What became of the connections of a listener, by their names in order. An outcome stands before all to which it applies.
 fn tell_connections(log: &mut Log, entries: &[Entry<MemoryLink>], token: usize) {
@@ -116,6 +78,8 @@ fn tell_report(log: &mut Log, entries: &[Entry<MemoryLink>], report: &Report) {
     tell_count(log, entries);
     match report.end {
         End::Drained => log.word(", drained"),
+        End::Stopped { graceful: true } => log.word(", stopped"),
+        End::Stopped { graceful: false } => log.word(", stopped by force"),
         End::Memory => log.lack_memory(),
     }
 }
@@ -138,6 +102,9 @@ fn tell_error(log: &mut Log, plan: &Plan, error: ServeError<usize>) {
             if worker >= plan.workers {
                 log.word("a wrong worker: ");
             }
+            if error == usize::MAX {
+                log.lack_memory();
+            }
             log.before("no service ", token as u64);
             log.before(" by ", error as u64);
         }
@@ -154,66 +121,32 @@ fn tell_next(log: &mut Log, listener: &mut MemoryListener) {
     }
 }
 
-// What a run is given beside its server.
-#[derive(Drop)]
-struct Stage {
-    alloc: Global,
-    listeners: Vec<MemoryListener>,
-    clock: StepClock,
-    spawner: ScriptSpawner,
-    done: KeepAll<MemoryLink>,
-}
-
 impl Stage {
-    // Listeners that answer so, and what starts the workers of the plan.
-    fn new(alloc: Global, plan: &Plan, answers: &[&[Answer]]) -> Result<Stage, AllocError> {
-        let listeners = listeners(alloc, answers)?;
-        let spawner = plan.spawner(alloc)?;
-        Ok(Stage {
-            alloc,
-            listeners,
-            clock: StepClock::new(0, 500),
-            spawner,
-            done: KeepAll::new(alloc),
-        })
-    }
-
-    // Serves. The listeners have to be few.
-    fn run<Ho: Host + 'static>(
-        &mut self,
-        rt: &Ho,
-        server: Server<EndAfter>,
-    ) -> Result<Report, ServeError<usize>> {
-        if self.listeners.len() > 64 {
-            return Err(ServeError::Memory);
-        }
-        // The proof of the call wants this type to be named.
-        let _ended: Option<Ended<MemoryLink>> = None;
-        server.serve(
-            rt,
-            self.alloc,
-            &mut self.listeners,
-            &mut self.clock,
-            &mut self.spawner,
-            &mut self.done,
-        )
-    }
-
     // What a run came to.
     fn tell(&mut self, plan: &Plan, run: Result<Report, ServeError<usize>>) -> Log {
         let mut log = Log::new(self.alloc);
         match run {
-            Ok(report) => tell_report(&mut log, self.done.entries(), &report),
+            Ok(report) => {
+                tell_report(&mut log, self.done.entries(), &report);
+                if report.end != End::Drained {
+                    self.tell_rest(&mut log);
+                }
+            }
             Err(error) => {
                 tell_error(&mut log, plan, error);
                 log.word(", ");
                 tell_count(&mut log, self.done.entries());
-                for listener in &mut self.listeners {
-                    tell_next(&mut log, listener);
-                }
+                self.tell_rest(&mut log);
             }
         }
         log
+    }
+
+    // What each listener gives next.
+    fn tell_rest(&mut self, log: &mut Log) {
+        for listener in &mut self.listeners {
+            tell_next(log, listener);
+        }
     }
 
     // The entries of a run that nothing but want of memory stops, and its end.
@@ -228,18 +161,48 @@ impl Stage {
     }
 }
 
-// What serving by the plan comes to, over listeners that answer so: of each connection, by token and place, the name of its link
-// and its outcome, of each listener what became of it, and the end.
+/// What serving comes to, by a server of the plan that these commands tell, over listeners that answer so: of each connection, by
+/// token and place, the name of its link and its outcome, of each listener what became of it, and the end.
+pub(crate) fn served_by<Ho: Host + 'static, Co: Commands>(
+    rt: &Ho,
+    alloc: Global,
+    plan: &Plan,
+    answers: &[&[Answer]],
+    server: Server<EndAfter>,
+    commands: &mut Co,
+) -> Result<Log, AllocError> {
+    let mut stage = Stage::new(alloc, plan, listeners(alloc, answers)?)?;
+    let run = stage.run(rt, server, commands);
+    Ok(stage.tell(plan, run))
+}
+
+// The same by a server that is told nothing.
 fn served<Ho: Host + 'static>(
     rt: &Ho,
     alloc: Global,
     plan: &Plan,
     answers: &[&[Answer]],
 ) -> Result<Log, AllocError> {
-    let server = plan.server(alloc)?;
-    let mut stage = Stage::new(alloc, plan, answers)?;
-    let run = stage.run(rt, server);
-    Ok(stage.tell(plan, run))
+    let server = plan.server(alloc, Arc::new(alloc, AtomicU64::new(0))?)?;
+    served_by(rt, alloc, plan, answers, server, &mut NoCommands::new())
+}
+
+// The same by a server that is told so.
+fn served_when_told<Ho: Host + 'static>(
+    rt: &Ho,
+    alloc: Global,
+    plan: &Plan,
+    answers: &[&[Answer]],
+    told: &Told<'_>,
+) -> Result<Log, AllocError> {
+    let begun = Arc::new(alloc, AtomicU64::new(0))?;
+    let mut commands = Gated::new(alloc, Arc::try_clone(&begun)?, told)?;
+    let server = plan.server(alloc, begun)?;
+    let mut log = served_by(rt, alloc, plan, answers, server, &mut commands)?;
+    if commands.gave_up() {
+        log.lack_memory();
+    }
+    Ok(log)
 }
 
 // The entries that serving by the plan gives, in the order in which they come, and the end.
@@ -249,9 +212,9 @@ fn served_in_order<Ho: Host + 'static>(
     plan: &Plan,
     answers: &[&[Answer]],
 ) -> Result<Log, AllocError> {
-    let server = plan.server(alloc)?;
-    let mut stage = Stage::new(alloc, plan, answers)?;
-    let run = stage.run(rt, server);
+    let server = plan.server(alloc, Arc::new(alloc, AtomicU64::new(0))?)?;
+    let mut stage = Stage::new(alloc, plan, listeners(alloc, answers)?)?;
+    let run = stage.run(rt, server, &mut NoCommands::new());
     Ok(stage.tell_order(run))
 }
 
@@ -269,6 +232,26 @@ pub(crate) fn come_to<R: Host + AllocGlobal + Abort + 'static>(
 ) -> Result<(), Fail> {
     for plan in plans {
         assert!(rt; is_so(served(rt, rt.alloc(), plan, answers), wanted)?);
+    }
+    Ok(())
+}
+
+/// The test goes on where serving by each of these plans comes to this, over listeners that answer so, where the server is told so.
+/// What a listener gives next stands at the end.
+pub(crate) fn come_to_when_told<R: Host + AllocGlobal + Abort + 'static>(
+    rt: &R,
+    plans: &[Plan],
+    answers: &[&[Answer]],
+    told: Told<'_>,
+    wanted: &[u8],
+) -> Result<(), Fail> {
+    for plan in plans {
+        assert!(rt;
+            is_so(
+                served_when_told(rt, rt.alloc(), plan, answers, &told),
+                wanted
+            )?
+        );
     }
     Ok(())
 }

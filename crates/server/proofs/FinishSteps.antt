@@ -1,12 +1,12 @@
 -- What a run comes to with workers that were started.
-use Rattle.std.proofs.Common.{◌≡◌, ◌⊎◌, ◌<◌, ◌^◌, ◌++◌, ◌∷◌, [], zero, suc, ℕ, ◌+◌, Bool, true, false, List, drop, length, map, replicate, All, Contains, Option, Some, None, IfSome, slice_get, slice_index_or, sum_by, refl, sym, ◌∙◌, ap, arith, subst, inl, inr}
-use Rattle.std.specs.Prelude.{sum}
+use Rattle.std.proofs.Common.{◌≡◌, ◌⊎◌, ◌<◌, ◌^◌, ◌++◌, ◌∷◌, [], zero, suc, ℕ, ◌+◌, ◌*◌, ◌≤◌, Bool, true, false, List, drop, length, map, replicate, All, Contains, Option, Some, None, IfSome, slice_get, slice_index_or, sum_by, refl, sym, ◌∙◌, ap, arith, subst, inl, inr}
+use Rattle.std.specs.Prelude.{count_by, is_some, sum}
 use Rattle.std.specs.List.{list_all}
 use Rattle.std.specs.Option.{option_map, option_map_or}
 use Rattle.std.proofs.lemmas.Bool.Decides.{nat_tests}
 use Rattle.std.proofs.lemmas.List.{append-nil, length-map, length-replicate}
 use Rattle.std.proofs.lemmas.List.Sums.{sum_by-cons}
-use Rattle.std.proofs.lemmas.List.Elements.{All-contains, All-head, All-map}
+use Rattle.std.proofs.lemmas.List.Elements.{All-contains, All-head, All-map, All-tail}
 use Rattle.std.proofs.lemmas.Option.{get_or_from_slice_get, slice_get_within}
 use Rattle.std.specs.declared.alloc.Global.{Global}
 use Rattle.rtrb.specs.declared.AnyItems.{AnyItems}
@@ -19,16 +19,17 @@ use Rattle.service_core.specs.declared.ended.Ended.{Ended}
 use Rattle.server_run.specs.Creating.{IsStartup}
 use Rattle.server_run.specs.Delivery.{left_at, once_below, rise}
 use Rattle.server_run.specs.Done.{Adds, served_count}
-use Rattle.server_run.specs.Serving.{Serves, Untouched}
+use Rattle.server_run.specs.Outcome.{is_stopped}
+use Rattle.server_run.specs.Serving.{HasCause, Untouched}
 use Rattle.server_run.specs.declared.entry.Entry.{Entry}
 use Rattle.server_run.specs.Listener.{Mark}
 use Rattle.server_run.specs.Report.{Tells, IsTold as TellsOf}
 use Rattle.server_run.specs.declared.report.Report.{Report}
 use Rattle.server_run.specs.declared.report.End.{End}
-use Rattle.server_run.specs.declared.report.End.TheVariants.{Drained, Memory}
+use Rattle.server_run.specs.declared.report.End.TheVariants.{Drained, Stopped, Memory}
 use Rattle.server_run.specs.declared.report.ListenerState.TheVariants.{Faulted}
 use Rattle.server_run.specs.declared.serve_error.ServeError.{ServeError}
-use Rattle.server_jobs.specs.Cards.{Card, of_note, of_parcel}
+use Rattle.server_jobs.specs.Cards.{Card, of_entry, of_note, of_parcel}
 use Rattle.server_jobs.specs.Jobs.{job_of}
 use Rattle.server_jobs.specs.Joins.{IsLine}
 use Rattle.server_jobs.specs.declared.handed.Handed.{Handed}
@@ -39,13 +40,17 @@ use Rattle.server_jobs.specs.declared.parcel.Parcel.{Parcel}
 use Rattle.server_jobs.specs.declared.running.Running.{Running}
 use Rattle.server_jobs.specs.declared.waiting.Waiting.{Waiting}
 use Rattle.server_worker.specs.Sound.{IsTold}
+use Rattle.server_worker.specs.Stops.{is_forced}
+use Rattle.server_acceptor.proofs.NoteSteps.{adds_trans}
 use Rattle.server_acceptor.specs.Accepting.{Finishes, IsNoted}
-use Rattle.server_acceptor.specs.Acceptors.{all_ready, core_of, notes_of, parcels_of, ready_of, retry_limit_of, serial_of, waiting_of}
+use Rattle.server_acceptor.specs.Acceptors.{all_ready, core_of, notes_of, out_of, parcels_of, ready_of, retry_limit_of, serial_of, waiting_of}
 use Rattle.server_acceptor.specs.Beginning.{IsNew}
-use Rattle.server_acceptor.specs.Carrying.{Carries, came_back, each, has_place, in_waiting, put}
+use Rattle.server_acceptor.specs.Carrying.{Carries, IsLetGo, came_back, each, has_place, in_waiting, let_gone, put}
 use Rattle.server_acceptor.specs.Notes.{count_back}
 use Rattle.server_acceptor.specs.Rings.{ring_in, ring_out}
+use Rattle.server_acceptor.specs.Sending.{IsForced, is_force as is_force_message}
 use Rattle.server_acceptor.specs.States.{IsStateOf}
+use Rattle.server_core.specs.Core.{Core}
 use Rattle.server_acceptor.specs.declared.acceptor.Acceptor.{Acceptor}
 use Rattle.worker_job.specs.Jobs.{factory_of, listeners_of}
 use Rattle.worker_job.specs.Promise.{HandsOver}
@@ -53,12 +58,17 @@ use Rattle.worker_job.specs.declared.departure.Departure.{Departure}
 use Rattle.worker_job.specs.declared.worker_job.WorkerJob.{WorkerJob}
 use Rattle.server.specs.Accepting.{Accepts}
 use Rattle.server.specs.Failing.{IsErrorOf}
-use Rattle.server.specs.Joining.{IsJoined, IsUnstarted, ReturnsAll}
+use Rattle.server.specs.Joining.{IsUnstarted}
+use Rattle.server.specs.Returning.{BringBack, IsFrom, ReturnsBy, many_back, many_put}
+use Rattle.server.specs.Stopping.{InTime, IsForcedInTime, IsUntold, ServesInTime}
 use Rattle.server.specs.Rows.{lines_of}
 use Rattle.server.specs.Starting.{IsStarted, RunsFor}
 use Rattle.server.specs.declared.unstarted.Unstarted.{Unstarted}
-use Rattle.server.proofs.Delivering.{delivers, ones}
-use Rattle.server.proofs.ReturnSteps.{balanced_lines, none_at, none_by, parcel_none, returns_all}
+use Rattle.server.proofs.Delivering.{all_from, delivers, ones}
+use Rattle.server.proofs.ForceSteps.{forced_on_line}
+use Rattle.server.proofs.LineSteps.{sum_map, lines_fewer, lines_out, still_none, still_ready}
+use Rattle.server.proofs.ReturnSteps.{none_by, parcel_none}
+use Rattle.server.proofs.BackSteps.{IsStill, from_lines, told_lines, weighs}
 use Rattle.server.proofs.Rows.{lines_join, lines_length, map_notes, map_parcels, runs_kept}
 use Rattle.server.proofs.StartSteps.{carries_start, no_drop}
 use Rattle.server.proofs.TellSteps.{none_ended, tells_all, told_exactly}
@@ -95,12 +105,16 @@ module _ {Li L D : Type 0} (given : Li → ℕ) (left : Li → Option (List L)) 
   puts_none : put identity (λ c. 1) a.parcels.items ≡ 0
   puts_none = omega (arith, carries.count, nothing)
 
-  weighs_none : (h : Card → ℕ) → put identity h a.parcels.items + in_waiting identity h a.waiting ≡ 0
+  none_gone : carries.gone ≡ []
+  none_gone = no_length carries.gone (let count : let_gone identity (λ c. 1) carries.gone ≡ sum_by (λ (e : Entry L). 1) carries.gone = refl in omega (arith, ones carries.gone, count, carries.count, nothing))
+
+  weighs_none : (h : Card → ℕ) → (put identity h a.parcels.items + in_waiting identity h a.waiting) + let_gone identity h carries.gone ≡ 0
   weighs_none h =
+      let g = ap (let_gone identity h) none_gone in
       let p : put identity h a.parcels.items ≡ 0 =
       none_by (λ p. sum_by (of_parcel identity (λ c. 1)) (sent p)) (λ p. sum_by (of_parcel identity h) (sent p)) (λ p. none_by (of_parcel identity (λ c. 1)) (of_parcel identity h) (parcel_none identity h) (sent p)) a.parcels.items puts_none in
       let w : in_waiting identity h a.waiting ≡ 0 = waits_none identity h a.waiting (omega (arith, carries.count, nothing)) in
-      omega (arith, p, w)
+      omega (arith, p, w, g)
 
   rises_none : (t : ℕ) → rise given before after t ≡ 0
   rises_none t = none_below (rise given before after t) (sym (carries.places t 0) ∙ weighs_none (each (has_place t 0)))
@@ -111,8 +125,9 @@ module _ {Li L D : Type 0} (given : Li → ℕ) (left : Li → Option (List L)) 
 
   no_more : more ≡ []
   no_more =
-      let back : came_back identity (λ c. 1) a.notes.items ≡ sum_by (λ (e : Entry L). 1) more = carries.back (λ c. 1) in
-      no_length more (omega (arith, ones more, back, backs_none))
+      let back : came_back identity (λ c. 1) a.notes.items + let_gone identity (λ c. 1) carries.gone ≡ sum_by (λ (e : Entry L). 1) more = carries.back (λ c. 1) in
+      let g = ap (let_gone identity (λ c. 1)) none_gone in
+      no_length more (omega (arith, ones more, back, backs_none, g))
 
   pub untouched : Untouched given left taken count served before after old new
   untouched = record {
@@ -125,14 +140,45 @@ module _ {Li L D : Type 0} (given : Li → ℕ) (left : Li → Option (List L)) 
     };
   }
 
+no_some : (o : Option Bool) → o ≡ None → is_some o ≡ true → ⊥
+no_some None none some = cc
+no_some (Some x) none some = cc
+
+-- no stop was taken up at the start, and none went out
+none_forced : {L : Type 0} (ps : List (Producer (Parcel L) Global AnyItems)) → All (λ p. sent p ≡ []) ps → (w : ℕ) → IsForced ps w → ⊥
+none_forced [] unsent w is = omega (arith, is)
+none_forced {L = L} (p ∷ ps) unsent zero is =
+    let some : 0 < count_by (is_force_message {L = L}) [] = subst (λ (items : List (Parcel L)). 0 < count_by (is_force_message {L = L}) items) (All-head (λ p. sent p ≡ []) p ps unsent) is in omega (arith, some)
+none_forced (p ∷ ps) unsent (suc w) is = none_forced ps (All-tail (λ p. sent p ≡ []) p ps unsent) w is
+
+pub untold_start : {L F E I : Type 0} (may_serve : F → ℕ → L → Ended L → Type 0) (may_leave : F → ℕ → L → L → Type 0) (may_ready : F → ℕ → Readiness E → Type 0) (may_init : F → ℕ → I → Type 0) (may_make : F → ℕ → Type 0)
+    (factory : F) (listeners limit retry_limit timeout : ℕ) (a : Acceptor L) (rs : List (Running (WorkerJob L F) (Handed L F (Departure I))))
+    → IsNew a (parcels_of a) (notes_of a) listeners limit retry_limit timeout → (length (parcels_of a) ≡ length rs) × (length (notes_of a) ≡ length rs)
+    → All (IsStarted may_serve may_leave may_ready may_init may_make factory listeners) (lines_of (parcels_of a) (notes_of a) rs) → IsUntold a
+untold_start may_serve may_leave may_ready may_init may_make factory listeners limit retry_limit timeout a rs fresh as_many started = record {
+  no_stop = fresh.stop;
+  unpaused = ap (λ (s : Core). s.paused) fresh.core;
+  unstopped = ap (λ (s : Core). s.stopping) fresh.core;
+  none_sent = none_forced (parcels_of a) (subst (All (λ p. sent p ≡ [])) (sym (map_parcels (parcels_of a) (notes_of a) rs as_many.0 as_many.1))
+      (All-map (λ p. sent p ≡ []) (λ l. l.parcels) (lines_of (parcels_of a) (notes_of a) rs) (λ i d inside. (started i d inside).sent_none)));
+}
+
+-- what has come back by a note is not stopped where no stop came, and nothing comes back by joins
+none_stopped : {L : Type 0} (a : Acceptor L) (entries back : List (Entry L)) → (core_of a).stopping ≡ None → All (λ e. is_stopped e.outcome ≡ true → is_some (core_of a).stopping ≡ true) entries
+    → length back ≡ 0 → All (λ e. is_stopped e.outcome ≡ true → ⊥) (entries ++ back)
+none_stopped a entries [] none founded few = subst (All (λ e. is_stopped e.outcome ≡ true → ⊥)) (sym (append-nil entries))
+    (λ i d inside stopped. no_some (core_of a).stopping none (founded i d inside stopped))
+none_stopped a entries (e ∷ back) none founded few = absurd (omega (arith, few))
+
 -- ---- a run
 pub none_of : {X : Type 0} (o : Option X) → ((x : X) → o ≡ Some x → ⊥) → o ≡ None
 none_of None other = refl
 none_of (Some x) other = absurd (other x refl)
 
-finished : {L : Type 0} (a : Acceptor L) (end : End) → Finishes a end → (waiting_of a ≡ None) × (sum (core_of a).out ≡ 0)
-finished a Drained f = (f.1, f.2)
-finished a Memory f = (f.1, f.2)
+finished : {L : Type 0} (a : Acceptor L) (end : End) → Finishes a end → waiting_of a ≡ None
+finished a Drained f = f.1
+finished a (Stopped graceful) f = f.1
+finished a Memory f = f.1
 
 -- a mark is set at each place
 marked : (marks : List Bool) (w : ℕ) → list_all (λ m. m) marks ≡ true → w < length marks → slice_index_or marks w false ≡ true
@@ -208,36 +254,111 @@ module _ {Li L D F E I : Type 0} (given : Li → ℕ) (left : Li → Option (Lis
         let known = unstarted_is u.worker u.token u.error knows in
         subst (IsStartup workers listeners (may_init factory)) (sym is) (omega (arith, many, known.0), known.1, known.2)
 
-  -- all that was out is back
-  module _ (qs : List (Producer (Parcel L) Global AnyItems)) (ms : List (Consumer (Note L) Global AnyItems)) (parcels : qs ≡ parcels_of b) (notes : ms ≡ notes_of b)
-      (end : End) (finishes : Finishes b end)
-      (joined : All (IsJoined {D = Departure I} identity (λ job out. HandsOver identity may_serve may_leave may_init may_make job out) (λ all. all)) (lines_of qs ms rs)) where
-    returned : All (ReturnsAll identity (may_serve factory) (may_leave factory) (may_make factory) listeners) (lines_of (parcels_of b) (notes_of b) rs)
-    returned = returns_all may_serve may_leave may_ready may_init may_make identity factory listeners (lines_of (parcels_of b) (notes_of b) rs) (runs_after (parcels_of b) (notes_of b) refl refl)
-        (subst (λ ps. All (IsJoined {D = Departure I} identity (λ job out. HandsOver identity may_serve may_leave may_init may_make job out) (λ all. all)) (lines_of ps (notes_of b) rs)) parcels
-        (subst (λ ns. All (IsJoined {D = Departure I} identity (λ job out. HandsOver identity may_serve may_leave may_init may_make job out) (λ all. all)) (lines_of qs ns rs)) notes joined))
-        (balanced_lines identity (parcels_of b) (notes_of b) rs (λ w. omega (arith, carried.out w, none_at (core_of b).out w (finished b end finishes).1)))
+  -- as many lines as the acceptor has workers
+  outs : length (core_of b).out ≡ length rs
+  outs = let m = (many_after (parcels_of b) (notes_of b) refl refl).0 in omega (arith, b.workers, m)
 
-    pub serves_all : ((f : F) (token : ℕ) (link : L) (ended : Ended L) → may_serve f token link ended → identity ended.link ≡ identity link)
-        → ((f : F) (token : ℕ) (link back : L) → may_leave f token link back → identity back ≡ identity link)
-        → Serves given left identity (may_serve factory) (may_leave factory) taken count served before after old new
-    serves_all same_served same_left = record {
-      entries = accepts.does.passes.more;
-      adds = accepts.does.passes.adds;
-      delivers = delivers identity (may_serve factory) (may_leave factory) (may_make factory) listeners given left before after b accepts.does.passes.more (lines_of (parcels_of b) (notes_of b) rs)
-          (same_served factory) (same_left factory) carried (finished b end finishes).0
-          (map_parcels (parcels_of b) (notes_of b) rs (many_after (parcels_of b) (notes_of b) refl refl).0 (many_after (parcels_of b) (notes_of b) refl refl).1)
-          (map_notes (parcels_of b) (notes_of b) rs (many_after (parcels_of b) (notes_of b) refl refl).0 (many_after (parcels_of b) (notes_of b) refl refl).1)
-          returned;
-    }
+  -- no more came back over a line than was put on its ring
+  pub fewer_after : All (λ line. many_back identity line ≤ many_put identity line) (lines_of (parcels_of b) (notes_of b) rs)
+  fewer_after = lines_fewer identity (parcels_of b) (notes_of b) rs (core_of b).out carried.out
+
+  out_after : sum_by (many_put identity) (lines_of (parcels_of b) (notes_of b) rs) ≡ sum_by (many_back identity) (lines_of (parcels_of b) (notes_of b) rs) + sum (core_of b).out
+  out_after = let m = many_after (parcels_of b) (notes_of b) refl refl in lines_out identity (parcels_of b) (notes_of b) rs (core_of b).out carried.out m.0 m.1 outs
+
+  -- there is room for what is out
+  pub room_after : (spare : ℕ) → out_of b ≤ spare → sum_by (many_put identity) (lines_of (parcels_of b) (notes_of b) rs) ≤ sum_by (many_back identity) (lines_of (parcels_of b) (notes_of b) rs) + spare
+  room_after spare room = let out = out_after in omega (arith, out, room)
+
+  -- each worker that was put a connection told before that its services stand
+  noted : IsNoted b
+  noted = accepts.does.awaits.noted (λ w is. absurd (unmarked (length (parcels_of a)) w (subst (λ marks. slice_index_or marks w false ≡ true) fresh.ready is)))
+
+  still_after : All (IsStill identity) (lines_of (parcels_of b) (notes_of b) rs)
+  still_after = by_ready (all_ready b) refl
+    where
+      by_ready : (ready : Bool) → all_ready b ≡ ready → All (IsStill identity) (lines_of (parcels_of b) (notes_of b) rs)
+      by_ready true is = still_ready identity (parcels_of b) (notes_of b) rs (λ w inside. noted w (marked (ready_of b) w is (let m = (many_after (parcels_of b) (notes_of b) refl refl) in omega (arith, inside, m.0, m.1, b.workers))))
+      by_ready false is = still_none identity (parcels_of b) (notes_of b) rs (let none = b.early is in let put : put identity (λ c. 1) b.parcels.items ≡ 0 = omega (arith, none, carried.count) in put)
+
+  -- the workers are joined, and what comes back only then is handed on
+  module _ (spare : D → ℕ) (qs : List (Producer (Parcel L) Global AnyItems)) (ms : List (Consumer (Note L) Global AnyItems)) (parcels : qs ≡ parcels_of b) (notes : ms ≡ notes_of b)
+      (then_new : D) (end : End) (finishes : Finishes b end)
+      (returns : ReturnsBy {D = Departure I} identity (λ job out. HandsOver identity may_serve may_leave may_init may_make job out) (λ all. all) taken count served spare (lines_of qs ms rs) new then_new) where
+    abbrev lines : List (Line L (WorkerJob L F) (Handed L F (Departure I)))
+    lines = lines_of (parcels_of b) (notes_of b) rs
+
+    brought : BringBack {D = Departure I} identity (λ job out. HandsOver identity may_serve may_leave may_init may_make job out) (λ all. all) lines returns.entries
+    brought = subst (λ ps. BringBack {D = Departure I} identity (λ job out. HandsOver identity may_serve may_leave may_init may_make job out) (λ all. all) (lines_of ps (notes_of b) rs) returns.entries) parcels
+        (subst (λ ns. BringBack {D = Departure I} identity (λ job out. HandsOver identity may_serve may_leave may_init may_make job out) (λ all. all) (lines_of qs ns rs) returns.entries) notes returns.brought)
+
+    runs : All (RunsFor may_serve may_leave may_ready may_init may_make factory listeners) lines
+    runs = runs_after (parcels_of b) (notes_of b) refl refl
+
+    as_parcels : parcels_of b ≡ map (λ l. l.parcels) lines
+    as_parcels = let m = many_after (parcels_of b) (notes_of b) refl refl in map_parcels (parcels_of b) (notes_of b) rs m.0 m.1
+
+    as_notes : notes_of b ≡ map (λ l. l.notes) lines
+    as_notes = let m = many_after (parcels_of b) (notes_of b) refl refl in map_notes (parcels_of b) (notes_of b) rs m.0 m.1
+
+    told : All (λ l. All (IsTold (may_serve factory) (may_leave factory) (may_make factory) listeners (sent l.parcels)) (received l.notes)) lines
+    told = told_lines may_serve may_leave may_ready may_init may_make identity factory listeners lines returns.entries brought runs still_after
+
+    -- what was put on the rings is what came back, and what the joins brought
+    weighs_by : (h : Card → ℕ) → put identity h (map (λ (l : Line L (WorkerJob L F) (Handed L F (Departure I))). l.parcels) lines)
+        ≡ came_back identity h (map (λ (l : Line L (WorkerJob L F) (Handed L F (Departure I))). l.notes) lines) + sum_by (of_entry identity h) returns.entries
+    weighs_by h =
+        let w = weighs may_serve may_leave may_ready may_init may_make identity factory listeners h lines returns.entries brought runs still_after in
+        let p = sum_map (λ p. sum_by (of_parcel identity h) (sent p)) (λ (l : Line L (WorkerJob L F) (Handed L F (Departure I))). l.parcels) lines in
+        let n = sum_map (λ c. sum_by (of_note identity h) (received c)) (λ (l : Line L (WorkerJob L F) (Handed L F (Departure I))). l.notes) lines in
+        omega (arith, w, p, n)
+
+    -- as many as were out
+    as_many_brought : length returns.entries ≡ sum (core_of b).out
+    as_many_brought =
+        let w : sum_by (many_put identity) lines ≡ sum_by (many_back identity) lines + sum_by (λ (e : Entry L). 1) returns.entries =
+        weighs may_serve may_leave may_ready may_init may_make identity factory listeners (λ c. 1) lines returns.entries brought runs still_after in
+        let out = out_after in omega (arith, w, out, ones returns.entries)
+
+    abbrev all : List (Entry L)
+    all = accepts.does.passes.more ++ returns.entries
+
+    module _ (same_served : (f : F) (token : ℕ) (link : L) (ended : Ended L) → may_serve f token link ended → identity ended.link ≡ identity link)
+        (same_left : (f : F) (token : ℕ) (link back : L) → may_leave f token link back → identity back ≡ identity link) where
+      from_all : All (λ e. ((l : Line L (WorkerJob L F) (Handed L F (Departure I))) × Contains lines l × IsFrom (may_serve factory) (may_leave factory) (sent l.parcels) e) ⊎ IsLetGo left before e) all
+      from_all = all_from identity (may_serve factory) (may_leave factory) (may_make factory) listeners given left before after b accepts.does.passes.more returns.entries lines
+          (same_served factory) (same_left factory) carried (finished b end finishes) as_parcels as_notes weighs_by told
+          (from_lines may_serve may_leave may_ready may_init may_make identity factory listeners lines returns.entries brought runs still_after)
+
+      -- one was stopped only where the run was
+      outcomes : (e : End) → Finishes b e → All (HasCause e) all
+      outcomes Drained f i d inside stopped = absurd (none_stopped b accepts.does.passes.more returns.entries f.4 accepts.does.passes.founded (let o = f.2 in let m = as_many_brought in omega (arith, o, m)) i d inside stopped)
+      outcomes (Stopped graceful) f i d inside stopped = refl
+      outcomes Memory f i d inside stopped = absurd (none_stopped b accepts.does.passes.more returns.entries f.4 accepts.does.passes.founded (let o = f.2 in let m = as_many_brought in omega (arith, o, m)) i d inside stopped)
+
+      pub in_time_all : (start now : ℕ) → InTime b timeout start now → ServesInTime given left identity (may_serve factory) (may_leave factory) taken count served before after old then_new end (start + 1000 * timeout ≤ now)
+      in_time_all start now in_time = record {
+        serves = record {
+          entries = all;
+          adds = adds_trans taken count served old new then_new accepts.does.passes.more returns.entries accepts.does.passes.adds returns.hands.adds;
+          delivers = delivers identity (may_serve factory) (may_leave factory) (may_make factory) listeners given left before after b accepts.does.passes.more returns.entries lines
+              (same_served factory) (same_left factory) carried (finished b end finishes) as_parcels as_notes weighs_by told
+              (from_lines may_serve may_leave may_ready may_init may_make identity factory listeners lines returns.entries brought runs still_after);
+          outcomes = outcomes end finishes;
+        };
+        forced = λ i d inside. by_place _ (from_all i d inside);
+      }
+        where
+          by_place : (e : Entry L) → (((l : Line L (WorkerJob L F) (Handed L F (Departure I))) × Contains lines l × IsFrom (may_serve factory) (may_leave factory) (sent l.parcels) e) ⊎ IsLetGo left before e)
+              → IsForcedInTime end (start + 1000 * timeout ≤ now) e
+          by_place e (inl of) forced = forced_on_line b timeout start now in_time end finishes (notes_of b) rs of.0 of.1.0 of.1.1 of.1.2 (of.2.force forced)
+          by_place e (inr gone) forced = absurd (let f : false ≡ true = sym (ap is_forced gone.0) ∙ forced in cc)
 
     pub made_all : 0 < length rs → all_ready b ≡ true → (token : ℕ) → token < listeners → may_make factory token
     made_all some ready =
         let many = many_after (parcels_of b) (notes_of b) refl refl in
-        let noted : IsNoted b = accepts.does.awaits.noted (λ w is. absurd (unmarked (length (parcels_of a)) w (subst (λ marks. slice_index_or marks w false ≡ true) fresh.ready is))) in
-        let first = first_line (ReturnsAll identity (may_serve factory) (may_leave factory) (may_make factory) listeners) (λ c. Contains (received c) Ready) (parcels_of b) (notes_of b) rs some many.0 many.1 returned
+        let first = first_line (λ l. All (IsTold (may_serve factory) (may_leave factory) (may_make factory) listeners (sent l.parcels)) (received l.notes)) (λ c. Contains (received c) Ready) (parcels_of b) (notes_of b) rs some many.0 many.1 told
         (noted 0 (marked (ready_of b) 0 ready (omega (arith, some, many.0, b.workers)))) in
-        All-contains (IsTold (may_serve factory) (may_leave factory) (may_make factory) listeners (sent first.0.parcels)) (received first.0.notes) Ready first.1.told first.2
+        All-contains (IsTold (may_serve factory) (may_leave factory) (may_make factory) listeners (sent first.0.parcels)) (received first.0.notes) Ready first.1 first.2
 
   -- what is told of the listeners
   pub tells_run : (report : Report) → Finishes b report.end → listeners ≡ length before → length report.listeners.items ≡ length after

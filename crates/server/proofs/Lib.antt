@@ -7,3 +7,8 @@ pub mod StartSteps
 pub mod Starts
 pub mod TellSteps
 pub mod TurnSteps
+pub mod Bringing
+pub mod BackSteps
+pub mod HearSteps
+pub mod LineSteps
+pub mod ForceSteps

@@ -16,7 +16,7 @@ use Rattle.server_jobs.specs.Cards.{Card, of_note, of_parcel}
 use Rattle.server_jobs.specs.declared.note.Note.{Note}
 use Rattle.server_jobs.specs.declared.parcel.Parcel.{Parcel}
 use Rattle.server_acceptor.specs.Beginning.{IsNew}
-use Rattle.server_acceptor.specs.Carrying.{Carries, ParcelIsInPlace, each, has_place, has_serial, in_waiting, put}
+use Rattle.server_acceptor.specs.Carrying.{Carries, IsLetGo, ParcelIsInPlace, came_back, each, has_place, has_serial, in_waiting, let_gone, put}
 use Rattle.server_acceptor.specs.declared.acceptor.Acceptor.{Acceptor}
 
 once_below-zero : (k : ℕ) → once_below 0 k ≡ 0
@@ -49,7 +49,7 @@ module _ {Li L : Type 0} (given : Li → ℕ) (left : Li → Option (List L)) (i
   notes_none : (h : Card → ℕ) → All (λ c. sum_by (of_note identity h) (received c) ≡ 0) a.notes.items
   notes_none h = subst (All (λ c. sum_by (of_note identity h) (received c) ≡ 0)) (sym new.consumers) (λ i d inside. ap (sum_by (of_note identity h)) (unreceived i d inside))
 
-  put_none : (h : Card → ℕ) → put identity h a.parcels.items + in_waiting identity h a.waiting ≡ 0
+  put_none : (h : Card → ℕ) → (put identity h a.parcels.items + in_waiting identity h a.waiting) + let_gone identity h [] ≡ 0
   put_none h =
       let p : put identity h a.parcels.items ≡ 0 = all_none (λ p. sum_by (of_parcel identity h) (sent p)) a.parcels.items (parcels_none h) in
       let w = ap (λ o. in_waiting identity h o) new.waiting in
@@ -60,6 +60,8 @@ module _ {Li L : Type 0} (given : Li → ℕ) (left : Li → Option (List L)) (i
 
   pub carries_start : Carries given left identity ls ls a []
   carries_start = record {
+    gone = [];
+    let_go = All-nil (IsLetGo left ls);
     count = put_none (λ c. 1) ∙ sym new.serial;
     serials = λ k. put_none (each (has_serial k)) ∙ sym (ap (λ n. once_below n k) new.serial ∙ once_below-zero k);
     places = λ t k. put_none (each (has_place t k)) ∙ sym (ap (λ n. once_below n k) (no_rise t) ∙ once_below-zero k);
@@ -72,7 +74,7 @@ module _ {Li L : Type 0} (given : Li → ℕ) (left : Li → Option (List L)) (i
         let l = length-replicate {A = ℕ} listeners 0 in
         let e : slice_index_or a.places.items t 0 ≡ 0 = ap (λ xs. slice_index_or xs t 0) new.places ∙ get_or-replicate {A = ℕ} listeners t 0 0 (omega (arith, m, l)) in
         e ∙ sym (no_rise t);
-    back = λ h. all_none (λ c. sum_by (of_note identity h) (received c)) a.notes.items (notes_none h);
+    back = λ h. let n : came_back identity h a.notes.items ≡ 0 = all_none (λ c. sum_by (of_note identity h) (received c)) a.notes.items (notes_none h) in omega (arith, n);
     noted = λ i d inside. absurd (omega arith);
     out = λ w.
         let p = at_none (λ p. sum_by (of_parcel identity (λ c. 1)) (sent p)) a.parcels.items (parcels_none (λ c. 1)) w in

@@ -9,7 +9,7 @@ use Rattle.server_run.specs.Delivery.{HasEnded, given_at}
 use Rattle.server_run.specs.Listener.{Mark}
 use Rattle.server_run.specs.Report.{EndedMeanwhile, HasFailed, IsTold, Tells}
 use Rattle.server_run.specs.declared.report.End.{End}
-use Rattle.server_run.specs.declared.report.End.TheVariants.{Drained, Memory}
+use Rattle.server_run.specs.declared.report.End.TheVariants.{Drained, Stopped, Memory}
 use Rattle.server_run.specs.declared.report.ListenerState.{ListenerState}
 use Rattle.server_run.specs.declared.report.ListenerState.TheVariants.{Ended, Faulted, Open}
 use Rattle.server_run.specs.declared.report.Report.{Report}
@@ -40,6 +40,7 @@ past (x ∷ xs) (suc t) P beyond = past xs t P (omega arith)
 -- where it finished drained, each listener has ended
 drained_all : {L : Type 0} (a : Acceptor L) (end : End) → Finishes a end → end ≡ Drained → (t : ℕ) → t < listeners_of a → slice_index_or (core_of a).ended t false ≡ true
 drained_all a Drained f is = f.0
+drained_all a (Stopped graceful) f is = absurd (cc)
 drained_all a Memory f is = absurd (cc)
 
 -- one is told as given up exactly where the core counts as many failures as it may have

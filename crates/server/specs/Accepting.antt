@@ -2,18 +2,25 @@
 use Rattle.std.specs.Prelude.{◌≡◌, ◌≤◌, ℕ, Bool, List, length, Option, slice_index_or}
 use Rattle.service_core.specs.Link.{Identity}
 use Rattle.server_acceptor.specs.Accepting.{Does}
-use Rattle.server_acceptor.specs.Acceptors.{listeners_of, out_of, places_of}
+use Rattle.server_acceptor.specs.Acceptors.{core_of, listeners_of, out_of, places_of}
 use Rattle.server_acceptor.specs.declared.acceptor.Acceptor.{Acceptor}
+use Rattle.server_core.specs.declared.command.Command.{Command}
 use Rattle.server_core.specs.declared.event.Event.{Event}
 use Rattle.server_run.specs.Listener.{Mark}
 use Rattle.server_run.specs.Delivery.{given_at}
 use Rattle.server_run.specs.declared.entry.Entry.{Entry}
+use Rattle.server.specs.Stopping.{Commanded, InTime}
 
 -- From a to b the acceptor made turns, by these events.
 pub record Accepts {Li L D : Type 0} (given : Li → ℕ) (left : Li → Option (List L)) (rest : Li → Option (List Mark)) (identity : L → Identity) (ended : Li → Bool) (faults : Li → ℕ)
     (taken : D → Option (List (Entry L))) (count served : D → ℕ) (before after : List Li) (a b : Acceptor L) (old new : D) : Type 0 where
   pub events : List Event
   pub does : Does given left rest identity ended faults taken count served before after a b old new events
+
+-- It took its commands of the source, and the clock stood so at its start and its end.
+pub record Hears {L Co : Type 0} (given : Co → Option (List Command)) (stops : Co → ℕ) (ended : Co → Bool) (b : Acceptor L) (before after : Co) (timeout start now : ℕ) : Type 0 where
+  pub commanded : Commanded given stops ended before after (core_of b)
+  pub in_time : InTime b timeout start now
 
 -- It may make a turn with these listeners and this holder of what is done, for so many of which there is room.
 pub record CanAccept {Li L : Type 0} (given : Li → ℕ) (listeners : List Li) (a : Acceptor L) (spare : ℕ) : Type 0 where

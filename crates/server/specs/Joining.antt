@@ -1,16 +1,13 @@
 -- Workers that were joined.
-use Rattle.std.specs.Prelude.{◌≡◌, ◌++◌, ℕ, Some, slice_get, sum_by, All}
+use Rattle.std.specs.Prelude.{◌≡◌, ◌++◌, ℕ, Some, slice_get}
 use Rattle.rtrb.specs.Ring.{known_items, received, sent}
 use Rattle.service_core.specs.Link.{Identity}
-use Rattle.service_core.specs.declared.ended.Ended.{Ended}
 use Rattle.std.specs.Prelude.{List}
-use Rattle.server_jobs.specs.Cards.{Card, of_note, of_parcel}
 use Rattle.server_jobs.specs.Jobs.{job_of}
 use Rattle.server_jobs.specs.Joins.{EachOnce, Hands}
 use Rattle.server_jobs.specs.declared.handed.Handed.{Handed}
 use Rattle.server_jobs.specs.declared.line.Joined.{Joined}
 use Rattle.server_jobs.specs.declared.line.Line.{Line}
-use Rattle.server_worker.specs.Sound.{IsTold}
 use Rattle.worker_job.specs.declared.departure.Departure.{Departure}
 use Rattle.worker_job.specs.declared.departure.Departure.TheVariants.{Unstarted}
 
@@ -31,8 +28,3 @@ pub record IsUnstarted {L F I J O : Type 0} (promise : J → O → Type 0) (hand
   pub out : O
   pub promised : promise (job_of line.running) out
   pub departed : (handed out).departure ≡ Unstarted token error
-
--- All that was put on the ring to a worker came back, each once, and what its notes told is true.
-pub record ReturnsAll {L J O : Type 0} (identity : L → Identity) (may_serve : ℕ → L → Ended L → Type 0) (may_leave : ℕ → L → L → Type 0) (may_make : ℕ → Type 0) (listeners : ℕ) (line : Line L J O) : Type 0 where
-  pub once : (h : Card → ℕ) → sum_by (of_parcel identity h) (sent line.parcels) ≡ sum_by (of_note identity h) (received line.notes)
-  pub told : All (IsTold may_serve may_leave may_make listeners (sent line.parcels)) (received line.notes)

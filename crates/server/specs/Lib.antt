@@ -6,3 +6,5 @@ pub mod Rows
 pub mod Servers
 pub mod Settings
 pub mod Starting
+pub mod Returning
+pub mod Stopping

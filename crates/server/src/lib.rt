@@ -9,6 +9,8 @@ mod building;
 mod joining;
 mod prepared;
 mod rests;
+mod returning;
+mod running;
 mod server;
 mod serving;
 mod settings;

@@ -1,21 +1,18 @@
-ghost use Rattle.std.specs.Prelude.{◌≡◌, ◌↔◌, ◌≤◌, ◌<◌, ℕ, [], IfOk, OnOk, OnErr, IfErr, IsErrOf, Err, length, vec_len};
+ghost use Rattle.std.specs.Prelude.{◌≡◌, ◌↔◌, ◌≤◌, ◌<◌, ◌+◌, ◌*◌, ℕ, [], false, IfOk, OnOk, OnErr, IfErr, IsErrOf, Err, length, vec_len};
 ghost use Rattle.futures.specs.declared.task.Poll.TheVariants.{Ready};
 ghost use Rattle.service_core.specs.Counts.{Rose};
 ghost use Rattle.server_run.specs.Creating.{HasMeaningOf, IsStartup};
-ghost use Rattle.server_run.specs.Report.{Tells};
-ghost use Rattle.server_run.specs.Serving.{Serves, Untouched};
+ghost use Rattle.server_run.specs.Report.{Tells, is_stop};
+ghost use Rattle.server_run.specs.Serving.{Untouched};
 ghost use Rattle.server_run.specs.declared.serve_error.ServeError.TheVariants.{NoListener, Spawn};
 ghost use Rattle.server.specs.Settings.{IsInRange, default_settings};
 ghost use Rattle.server.specs.Starting.{RoseBy};
+ghost use Rattle.server.specs.Stopping.{IsTold, ServesInTime};
 
 use crate::builder::ServerBuilder;
-use crate::joining::{join_all, stop_all, wake_all};
-use crate::prepared::Prepared;
-use crate::serving::serve_on;
+use crate::running::serve_by;
 use crate::settings::Settings;
-use crate::starting::start_workers;
-use crate::states::tell_numbers;
-use server_acceptor::Acceptor;
+use server_commands::{CommandQueue, Commands, ServerHandle};
 use server_jobs::{Clock, Spawner, ThreadFactory};
 use server_run::{Done, Host, Listener, Report, ServeError};
 use service_core::ServiceFactory;
@@ -26,6 +23,8 @@ use std::alloc::{AllocError, Global};
 pub struct Server<F> {
     pub(crate) factory: F,
     pub(crate) settings: Settings,
+    // Where its handles post commands.
+    pub(crate) queue: CommandQueue,
     ghost ranges: { IsInRange settings },
 }
 
@@ -43,21 +42,33 @@ impl Server<()> {
 impl<F> Server<F> {
     ghost use Rattle.server.specs.Servers.{factory_of, server_settings};
 
+    /// What tells the server to pause, to go on and to stop, from any thread (`actix-server`'s `Server::handle`). It posts where the
+    /// builder's `handle_commands` take.
+    pub fn handle(&self) -> Result<ServerHandle, AllocError> {
+        self.queue.handle()
+    }
+
     /// Serves each connection that the listeners give, on as many threads as there are workers, until each listener has ended,
-    /// or failed as often as it may. Each is handed to `done` with its link, exactly once.
+    /// or failed as often as it may, or a command stops it. Each is handed to `done` with its link, exactly once.
     ///
     /// The worker that comes next in turn and has room gets a connection; where none has, it waits, and no listener is asked
-    /// meanwhile. Nothing is accepted before the services of all workers stand. An error comes before the first accept, and all
-    /// workers that were started are joined then, as they are at the end.
+    /// meanwhile. Nothing is accepted before the services of all workers stand, while a command has paused it, or after a stop.
+    /// An error comes before the first accept, and all workers that were started are joined then, as they are at the end.
+    ///
+    /// After a stop what no service got is handed on as it came. A graceful stop lets a worker serve what it has, for as many
+    /// seconds as `shutdown_timeout` sets; what is served still then, or at a stop that is not graceful, is handed on as it
+    /// stands. A source of commands that ends while the server is paused stops it gracefully. Once all workers are joined the
+    /// replies to its commands are ready, and so is every later one.
     ///
     /// It waits for its threads, and they for the links. Of a listener that tells nothing of the links still to come (its
     /// `left` is `None`) `serves` holds little: how many entries there are, their numbers, and that each has some link as it
     /// came back, but not which link of the listener.
-    pub fn serve<Ho, Li, Cl, Sp, Do>(
+    pub fn serve<Ho, Li, Co, Cl, Sp, Do>(
         self,
         rt: &Ho,
         alloc: Global,
         listeners: &mut Vec<Li>,
+        commands: &mut Co,
         clock: &mut Cl,
         spawner: &mut Sp,
         done: &mut Do,
@@ -66,6 +77,7 @@ impl<F> Server<F> {
         Ho: Host + 'static,
         Li: Listener<Link: Send + 'static>,
         F: ThreadFactory<Li::Link> + 'static,
+        Co: Commands,
         Cl: Clock,
         Sp: Spawner,
         Do: Done<Li::Link>,
@@ -85,58 +97,27 @@ impl<F> Server<F> {
         ensures before { OnErr result (Untouched Li.given Li.left Do.taken Do.count Do.served listeners.old.items listeners.new.items done.old done.new) }
 
         // Each connection that the listeners gave was handed to `done`, exactly once and with its link, as a service of its
-        // listener's token ended it.
-        ensures serves { OnOk result (Serves Li.given Li.left Li.Link.identity (F.may_serve (factory_of self)) (F.may_leave (factory_of self)) Do.taken Do.count Do.served listeners.old.items listeners.new.items done.old done.new) }
+        // listener's token ended it, or, after a stop alone, as it stood; by force only after one that was not graceful, or once
+        // the time of a graceful one was over.
+        ensures serves { IfOk result (λ report. ServesInTime Li.given Li.left Li.Link.identity (F.may_serve (factory_of self)) (F.may_leave (factory_of self)) Do.taken Do.count Do.served listeners.old.items listeners.new.items done.old done.new report.end
+            (Cl.told clock.old + 1000 * (server_settings self).shutdown_timeout ≤ Cl.told clock.new)) }
+
+        // It ends as stopped exactly where a stop came, or where the commands ended while it was paused.
+        ensures commanded { IfOk result (λ report. IsTold Co.given Co.stops Co.ended commands.old commands.new report.end) }
         ensures told { IfOk result (λ report. Tells Li.rest Li.ended Li.faults (server_settings self).retry_limit listeners.old.items listeners.new.items report) }
-        ensures made { OnOk result ((token : ℕ) → token < vec_len listeners.old → F.may_make (factory_of self) token) }
+        ensures made { IfOk result (λ report. is_stop report.end ≡ false → (token : ℕ) → token < vec_len listeners.old → F.may_make (factory_of self) token) }
         ensures started { OnOk result (RoseBy (server_settings self).workers (Sp.starts spawner.old) (Sp.starts spawner.new)) }
     {
-        if listeners.is_empty() {
-            return Err(ServeError::NoListener);
-        }
-        let Server { factory, settings } = self;
-        let count = listeners.len();
-        let Prepared {
-            room,
-            mut parcels,
-            mut notes,
-            mut numbers,
-            states,
-            task,
-        } = Prepared::new(alloc, settings.workers, count)?;
-        let mut running = Vec::with_capacity(alloc, settings.workers)?;
-        let fault = start_workers(
-            spawner,
-            rt,
-            alloc,
-            &factory,
-            count,
-            settings.ring,
-            settings.workers,
-            &mut parcels,
-            &mut notes,
-            &mut running,
+        let Server {
+            factory,
+            settings,
+            queue,
+        } = self;
+        let served = serve_by(
+            rt, alloc, factory, settings, listeners, commands, clock, spawner, done,
         );
-        if let Some(fault) = fault {
-            let worker = running.len();
-            tell_numbers(&running, &mut numbers);
-            stop_all(&mut parcels);
-            wake_all::<Ho, Sp>(numbers.as_slice(), spawner);
-            join_all(rt, parcels, notes, running);
-            return Err(fault.error(worker));
-        }
-        let acceptor = Acceptor::with_room(
-            room,
-            parcels,
-            notes,
-            count,
-            settings.limit,
-            settings.retry_limit,
-            settings.shutdown_timeout,
-        );
-        serve_on(
-            rt, &factory, &task, acceptor, running, numbers, states, listeners, clock, spawner,
-            done,
-        )
+        commands.settled();
+        queue.close(rt);
+        served
     }
 }

@@ -1,21 +1,24 @@
 //! How the server serves once its workers are started.
-ghost use Rattle.std.specs.Prelude.{◌≡◌, ◌≤◌, ◌<◌, ℕ, All, [], IfOk, IfErr, OnOk, OnErr, IsErrOf, Err, length, vec_len, vec_capacity};
+ghost use Rattle.std.specs.Prelude.{◌≡◌, ◌≤◌, ◌<◌, ◌+◌, ◌*◌, ℕ, All, [], false, IfOk, IfErr, OnOk, OnErr, IsErrOf, Err, length, vec_len, vec_capacity};
 ghost use Rattle.server_acceptor.specs.Acceptors.{limit_of, notes_of, parcels_of, retry_limit_of, shutdown_timeout_of};
 ghost use Rattle.server_acceptor.specs.Beginning.{IsNew};
 ghost use Rattle.server_run.specs.Creating.{IsStartup};
-ghost use Rattle.server_run.specs.Report.{Tells};
-ghost use Rattle.server_run.specs.Serving.{Serves, Untouched};
+ghost use Rattle.server_run.specs.Report.{Tells, is_stop};
+ghost use Rattle.server_run.specs.Serving.{Untouched};
 ghost use Rattle.server_run.specs.declared.serve_error.ServeError.TheVariants.{NoListener, Spawn};
 ghost use Rattle.server.specs.Failing.{IsErrorOf};
 ghost use Rattle.server.specs.Rows.{lines_of};
 ghost use Rattle.server.specs.Starting.{IsStarted};
+ghost use Rattle.server.specs.Stopping.{IsTold, ServesInTime};
 
 use crate::accepting::accept_on;
 use crate::joining::{join_all, stop_all, wake_all};
 use crate::rests::Rests;
+use crate::returning::return_all;
 use crate::states::{tell_numbers, tell_states};
 use crate::unstarted::Unstarted;
 use server_acceptor::Acceptor;
+use server_commands::Commands;
 use server_jobs::{Clock, OneTask, Running, ThreadFactory};
 use server_run::{Done, Listener, ListenerState, Report, ServeError};
 use service_core::{Link, ServiceFactory};
@@ -38,7 +41,7 @@ fn error_of<I>(unstarted: Option<Unstarted<I>>) -> ServeError<I>
 }
 
 // Serves with workers that were started, and joins them.
-pub(crate) fn serve_on<Ho, Li, F, Cl, Sp, Do>(
+pub(crate) fn serve_on<Ho, Li, F, Co, Cl, Sp, Do>(
     rt: &Ho,
     factory: &F,
     task: &OneTask,
@@ -47,6 +50,7 @@ pub(crate) fn serve_on<Ho, Li, F, Cl, Sp, Do>(
     numbers: Vec<usize>,
     states: Vec<ListenerState>,
     listeners: &mut Vec<Li>,
+    commands: &mut Co,
     clock: &mut Cl,
     spawner: &mut Sp,
     done: &mut Do,
@@ -55,6 +59,7 @@ where
     Ho: Wait + Threads,
     Li: Listener<Link: Send>,
     F: ThreadFactory<Li::Link>,
+    Co: Commands,
     Cl: Clock,
     Sp: Rests<Ho>,
     Do: Done<Li::Link>,
@@ -68,9 +73,11 @@ where
     ensures no_spawn { (w : ℕ) → result ≡ Err (Spawn w) → ⊥ }
     ensures startup { IfErr result (IsStartup (vec_len running) (vec_len listeners.old) (F.may_init factory.now)) }
     ensures before { OnErr result (Untouched Li.given Li.left Do.taken Do.count Do.served listeners.old.items listeners.new.items done.old done.new) }
-    ensures serves { OnOk result (Serves Li.given Li.left Li.Link.identity (F.may_serve factory.now) (F.may_leave factory.now) Do.taken Do.count Do.served listeners.old.items listeners.new.items done.old done.new) }
+    ensures serves { IfOk result (λ report. ServesInTime Li.given Li.left Li.Link.identity (F.may_serve factory.now) (F.may_leave factory.now) Do.taken Do.count Do.served listeners.old.items listeners.new.items done.old done.new report.end
+        (Cl.told clock.old + 1000 * shutdown_timeout_of acceptor ≤ Cl.told clock.new)) }
+    ensures commanded { IfOk result (λ report. IsTold Co.given Co.stops Co.ended commands.old commands.new report.end) }
     ensures told { IfOk result (λ report. Tells Li.rest Li.ended Li.faults (retry_limit_of acceptor) listeners.old.items listeners.new.items report) }
-    ensures made { OnOk result ((token : ℕ) → token < vec_len listeners.old → F.may_make factory.now token) }
+    ensures made { IfOk result (λ report. is_stop report.end ≡ false → (token : ℕ) → token < vec_len listeners.old → F.may_make factory.now token) }
     ensures counts { Sp.counts spawner.new ≡ Sp.counts spawner.old }
 {
     let mut acceptor = acceptor;
@@ -83,6 +90,7 @@ where
         &mut acceptor,
         numbers.as_slice(),
         listeners,
+        commands,
         clock,
         spawner,
         done,
@@ -96,7 +104,7 @@ where
     tell_states(&acceptor, listeners.len(), &mut states);
     let (parcels, notes) = acceptor.into_rings();
     wake_all::<Ho, Sp>(numbers.as_slice(), spawner);
-    join_all(rt, parcels, notes, running);
+    return_all(rt, parcels, notes, running, done);
     Ok(Report {
         end,
         listeners: states,

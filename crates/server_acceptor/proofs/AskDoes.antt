@@ -1,11 +1,12 @@
 -- What asking a listener once does.
 use Rattle.std.proofs.Common.{◌≡◌, ◌≢◌, ◌^◌, ◌≤◌, ◌<◌, ◌⊎◌, ◌++◌, ◌∷◌, [], ℕ, zero, suc, ◌+◌, ◌-◌, Bool, true, false, true≢false, cond, List, map, length, Contains, Option, Some, None, IfSome, refl, sym, ◌∙◌, ap, ap₂, arith, subst, inl, inr, length-append, get_or-set_other}
-use Rattle.std.specs.Prelude.{⊤, count_by, min, nat_eq, slice_get, slice_index, slice_index_or, slice_set, sum, IsSomeAnd}
+use Rattle.std.specs.Prelude.{⊤, count_by, is_some, min, nat_eq, slice_get, slice_index, slice_index_or, slice_set, sum, IsSomeAnd}
 use Rattle.std.specs.List.{list_all}
 use Rattle.std.proofs.Math.ListN.{length-set}
 use Rattle.std.proofs.lemmas.Bool.{cases_eq}
 use Rattle.std.proofs.lemmas.Bool.Decides.{nat_tests}
 use Rattle.std.proofs.lemmas.List.{append-nil, append_cancel_left}
+use Rattle.std.proofs.lemmas.List.Elements.{All-nil}
 use Rattle.std.proofs.lemmas.List.Sums.{sum_by-append}
 use Rattle.std.specs.Option.{option_and_then, option_map, option_map_or}
 use Rattle.rtrb.specs.Ring.{known_items, received}
@@ -21,15 +22,16 @@ use Rattle.server_run.specs.declared.entry.Entry.{Entry}
 use Rattle.server_acceptor.proofs.Giving.{adds_none}
 use Rattle.server_jobs.specs.declared.waiting.Waiting.{Waiting}
 use Rattle.server_jobs.specs.declared.note.Note.TheVariants.{Ready as ReadyNote}
-use Rattle.server_acceptor.specs.Accepting.{HasTaken, HasTold, IsOutside, IsShort, MayAsk, is_back, is_failed, is_got, is_sent, marks_of, received_at, refused}
+use Rattle.server_acceptor.specs.Accepting.{HasTaken, HasTold, IsOutside, IsShort, MayAsk, is_back, is_command, is_failed, is_got, is_sent, marks_of, received_at, refused}
 use Rattle.server_acceptor.specs.Acceptors.{all_ready, core_of, events_of, notes_of, out_of, ready_of}
 use Rattle.server_acceptor.specs.Asking.{AskDoes, ComesTo}
 use Rattle.server_acceptor.specs.AskingListeners.{AsksOnly, IsAsked, IsMarkedAs, Leaves, TakesUp}
 use Rattle.server_acceptor.specs.Carrying.{Carries}
-use Rattle.server_acceptor.specs.Notes.{IsBackFirst, count_back}
+use Rattle.server_acceptor.specs.Notes.{AreLeft, count_back}
 use Rattle.server_acceptor.specs.Listening.{AsksAt}
 use Rattle.server_acceptor.specs.Logging.{AllOfUse, Logs}
 use Rattle.server_acceptor.specs.Rings.{count_put, ring_in, ring_out}
+use Rattle.server_acceptor.specs.Sending.{IsForced}
 use Rattle.server_acceptor.specs.declared.acceptor.Acceptor.{Acceptor}
 use Rattle.server_acceptor.specs.declared.asked.Asked.{Asked}
 use Rattle.server_acceptor.specs.declared.asked.Asked.TheVariants.{Got, NotYet, Skipped, Failed, Ended}
@@ -162,8 +164,9 @@ module _ {Li L : Type 0} (given : Li → ℕ) (left : Li → Option (List L)) (r
     (may : MayAsk a) where
   told_on : (w : ℕ) → HasTold a w → HasTold b w
   told_on w told =
-      subst (λ out. IfSome (slice_get (notes_of b) w) (λ c. (known_items c ≡ []) ⊎ ((slice_index out w ≡ 0) × IsBackFirst (known_items c)))) (sym only.out)
-      (subst (λ ns. IfSome (slice_get ns.items w) (λ c. (known_items c ≡ []) ⊎ ((slice_index (core_of a).out w ≡ 0) × IsBackFirst (known_items c)))) (sym only.notes) told)
+      subst (λ out. IfSome (slice_get (notes_of b) w) (λ c. AreLeft (slice_index out w) (core_of b).stopping (known_items c))) (sym only.out)
+      (subst (λ o. IfSome (slice_get (notes_of b) w) (λ c. AreLeft (slice_index (core_of a).out w) o (known_items c))) (sym only.stopping)
+      (subst (λ ns. IfSome (slice_get ns.items w) (λ c. AreLeft (slice_index (core_of a).out w) (core_of a).stopping (known_items c))) (sym only.notes) told))
 
   short_on : IsShort a → IsShort b
   short_on short = omega (arith, short, ap (λ (xs : List ℕ). length xs) only.out, ap (λ (xs : List Event). length xs) logs.appended, length-append a.events.items logs.more)
@@ -241,6 +244,7 @@ module _ {Li L : Type 0} (given : Li → ℕ) (left : Li → Option (List L)) (r
           passes = record {
             more = [];
             adds = adds_none taken count served d fits;
+            founded = All-nil _;
             carries = λ first entries before_this. subst (λ xs. Carries given left identity first after b xs) (sym (append-nil entries)) (carries first entries before_this);
           };
           awaits = record {
@@ -274,9 +278,18 @@ module _ {Li L : Type 0} (given : Li → ℕ) (left : Li → Option (List L)) (r
           listeners = others.as_many;
           limit = only.retry_limit;
           lacks = λ is. only.lacks_room ∙ is;
+          stops = λ is. ap (λ o. is_some o) only.stopping ∙ is;
         };
       };
       asks = record {
+        leaves = record {
+          commands = omega (arith, ap (count_by is_command) added, sum_by-append (λ e. cond (is_command e) 1 0) a.events.items es, none_of is_command t refl refl refl es are);
+          paused = only.paused;
+          stopping = only.stopping;
+          stop = only.stop;
+          timeout = only.shutdown_timeout;
+          forced = λ w is. subst (λ v. IsForced v.items w) only.parcels is;
+        };
         first = only.first;
         listeners = λ v out. asks_at.others v (not_inside t v out);
         failed = λ v out. failed_others v (not_inside t v out);

@@ -1,5 +1,5 @@
 -- That what came from the listeners is carried on, step by step.
-use Rattle.std.proofs.Common.{◌≡◌, ◌≢◌, ℕ, zero, suc, ◌+◌, ◌-◌, ◌==◌, ◌&&◌, ◌<◌, true, false, cond, List, [], ◌∷◌, ◌++◌, length, map, drop, sum_by, All, Any, Contains, Option, IfSome, refl, sym, ap, ap₂, subst, ◌∙◌, arith, inl, inr, get_or-set_same, get_or-set_other}
+use Rattle.std.proofs.Common.{◌≡◌, ◌≢◌, ◌⊎◌, ℕ, zero, suc, ◌+◌, ◌-◌, ◌==◌, ◌&&◌, ◌<◌, true, false, cond, List, [], ◌∷◌, ◌++◌, length, map, drop, sum_by, All, Any, Contains, Option, IfSome, refl, sym, ap, ap₂, subst, ◌∙◌, arith, inl, inr, get_or-set_same, get_or-set_other}
 use Rattle.std.specs.Prelude.{slice_set, slice_index, slice_index_or}
 use Rattle.std.specs.Option.{option_map, option_map_or}
 use Rattle.std.proofs.lemmas.Bool.{cases_eq}
@@ -13,7 +13,7 @@ use Rattle.service_core.specs.Link.{Identity}
 use Rattle.server_run.specs.Delivery.{given_at, left_at, once_below, rise}
 use Rattle.server_run.specs.declared.entry.Entry.{Entry}
 use Rattle.server_jobs.specs.Cards.{Card, of_entry, of_parcel}
-use Rattle.server_acceptor.specs.Carrying.{Carries, IsInPlace, ParcelIsInPlace, came_back, each, has_place, has_serial, in_waiting, put}
+use Rattle.server_acceptor.specs.Carrying.{Carries, IsInPlace, ParcelIsInPlace, came_back, each, has_place, has_serial, in_waiting, let_gone, put}
 use Rattle.server_acceptor.proofs.Giving.{first_left, once_below-more}
 use Rattle.server_acceptor.specs.AskingListeners.{AsksOnly, TakesUp}
 use Rattle.server_acceptor.specs.Listening.{AsksAt, Gives, GivesNone}
@@ -140,9 +140,11 @@ module _ {Li L : Type 0} (given : Li → ℕ) (left : Li → Option (List L)) (i
   -- a connection went from where it waits to a worker
   sent_on : (a b : Acceptor L) (entries : List (Entry L)) (w : ℕ) → w < length a.core.out → Stays a b → WasSent a b w → Carries given left identity first now a entries → Carries given left identity first now b entries
   sent_on a b entries w within s p c =
-      let weigh : (h : Card → ℕ) → put identity h b.parcels.items + in_waiting identity h b.waiting ≡ put identity h a.parcels.items + in_waiting identity h a.waiting =
+      let weigh : (h : Card → ℕ) → (put identity h b.parcels.items + in_waiting identity h b.waiting) + let_gone identity h c.gone ≡ (put identity h a.parcels.items + in_waiting identity h a.waiting) + let_gone identity h c.gone =
       λ h. omega (arith, put_more identity h a.parcels.items b.parcels.items w (parcel_of p.placed) p.rings, ap (in_waiting identity h) p.was, ap (in_waiting identity h) p.waiting) in
       record {
+        gone = c.gone;
+        let_go = c.let_go;
         count = weigh (λ c. 1) ∙ c.count ∙ sym s.serial;
         serials = λ k. weigh (each (has_serial k)) ∙ c.serials k ∙ ap (λ n. once_below n k) (sym s.serial);
         places = λ t k. weigh (each (has_place t k)) ∙ c.places t k;
@@ -151,8 +153,8 @@ module _ {Li L : Type 0} (given : Li → ℕ) (left : Li → Option (List L)) (i
         remains = c.remains;
         rises = c.rises;
         next_places = λ t below. ap (λ v. slice_index_or v.items t 0) s.places ∙ c.next_places t (subst (λ v. t < length v.items) s.places below);
-        back = λ h. ap (λ v. came_back identity h v.items) s.notes ∙ c.back h;
-        noted = subst (λ v. All (λ e. Any (λ r. Contains (received r) (Back e)) v.items) entries) (sym s.notes) c.noted;
+        back = λ h. ap (λ v. came_back identity h v.items + let_gone identity h c.gone) s.notes ∙ c.back h;
+        noted = subst (λ v. All (λ e. Any (λ r. Contains (received r) (Back e)) v.items ⊎ Contains c.gone e) entries) (sym s.notes) c.noted;
         out = λ v. omega (
           arith,
           c.out v,
@@ -165,9 +167,11 @@ module _ {Li L : Type 0} (given : Li → ℕ) (left : Li → Option (List L)) (i
   kept_on : (a b : Acceptor L) (entries : List (Entry L)) → Stays a b → KeepsSent a.parcels.items b.parcels.items → b.waiting ≡ a.waiting → b.core.out ≡ a.core.out
       → Carries given left identity first now a entries → Carries given left identity first now b entries
   kept_on a b entries s k waiting out c =
-      let weigh : (h : Card → ℕ) → put identity h b.parcels.items + in_waiting identity h b.waiting ≡ put identity h a.parcels.items + in_waiting identity h a.waiting =
+      let weigh : (h : Card → ℕ) → (put identity h b.parcels.items + in_waiting identity h b.waiting) + let_gone identity h c.gone ≡ (put identity h a.parcels.items + in_waiting identity h a.waiting) + let_gone identity h c.gone =
       λ h. omega (arith, put_kept identity h a.parcels.items b.parcels.items k, ap (in_waiting identity h) waiting) in
       record {
+        gone = c.gone;
+        let_go = c.let_go;
         count = weigh (λ c. 1) ∙ c.count ∙ sym s.serial;
         serials = λ k. weigh (each (has_serial k)) ∙ c.serials k ∙ ap (λ n. once_below n k) (sym s.serial);
         places = λ t k. weigh (each (has_place t k)) ∙ c.places t k;
@@ -176,8 +180,8 @@ module _ {Li L : Type 0} (given : Li → ℕ) (left : Li → Option (List L)) (i
         remains = c.remains;
         rises = c.rises;
         next_places = λ t below. ap (λ v. slice_index_or v.items t 0) s.places ∙ c.next_places t (subst (λ v. t < length v.items) s.places below);
-        back = λ h. ap (λ v. came_back identity h v.items) s.notes ∙ c.back h;
-        noted = subst (λ v. All (λ e. Any (λ r. Contains (received r) (Back e)) v.items) entries) (sym s.notes) c.noted;
+        back = λ h. ap (λ v. came_back identity h v.items + let_gone identity h c.gone) s.notes ∙ c.back h;
+        noted = subst (λ v. All (λ e. Any (λ r. Contains (received r) (Back e)) v.items ⊎ Contains c.gone e) entries) (sym s.notes) c.noted;
         out = λ v. count_kept identity a.parcels.items b.parcels.items v k ∙ c.out v ∙ sym (ap₂ (λ n o. count_back identity n.items v + slice_index o v) s.notes out);
       }
 
@@ -190,9 +194,11 @@ module _ {Li L : Type 0} (given : Li → ℕ) (left : Li → Option (List L)) (i
   pub carries_handed : {D : Type 0} (taken : D → Option (List (Entry L))) (count served : D → ℕ) (a b : Acceptor L) (old new : D) (entries : List (Entry L))
       → (hands : Hands identity taken count served a b old new) → Carries given left identity first now a entries → Carries given left identity first now b (entries ++ hands.entries)
   carries_handed taken count served a b old new entries k c =
-      let weigh : (h : Card → ℕ) → put identity h b.parcels.items + in_waiting identity h b.waiting ≡ put identity h a.parcels.items + in_waiting identity h a.waiting =
-      λ h. ap₂ (λ v o. put identity h v.items + in_waiting identity h o) k.parcels k.waiting in
+      let weigh : (h : Card → ℕ) → (put identity h b.parcels.items + in_waiting identity h b.waiting) + let_gone identity h c.gone ≡ (put identity h a.parcels.items + in_waiting identity h a.waiting) + let_gone identity h c.gone =
+      λ h. ap₂ (λ v o. (put identity h v.items + in_waiting identity h o) + let_gone identity h c.gone) k.parcels k.waiting in
       record {
+        gone = c.gone;
+        let_go = c.let_go;
         count = weigh (λ c. 1) ∙ c.count ∙ sym k.serial;
         serials = λ i. weigh (each (has_serial i)) ∙ c.serials i ∙ ap (λ n. once_below n i) (sym k.serial);
         places = λ t i. weigh (each (has_place t i)) ∙ c.places t i;
@@ -202,9 +208,13 @@ module _ {Li L : Type 0} (given : Li → ℕ) (left : Li → Option (List L)) (i
         rises = c.rises;
         next_places = λ t below. ap (λ v. slice_index_or v.items t 0) k.places ∙ c.next_places t (subst (λ v. t < length v.items) k.places below);
         back = λ h. omega (arith, k.back h, c.back h, sum_by-append (of_entry identity h) entries k.entries);
-        noted = All-append (λ e. Any (λ r. Contains (received r) (Back e)) b.notes.items) entries k.entries (λ i d inside. k.kept _ (c.noted i d inside)) k.noted;
+        noted = All-append (λ e. Any (λ r. Contains (received r) (Back e)) b.notes.items ⊎ Contains c.gone e) entries k.entries (λ i d inside. still _ (c.noted i d inside)) (λ i d inside. inl (k.noted i d inside));
         out = λ v. ap (λ x. count_put identity x.items v) k.parcels ∙ c.out v ∙ sym (k.balance v);
       }
+    where
+      still : (e : Entry L) → Any (λ r. Contains (received r) (Back e)) a.notes.items ⊎ Contains c.gone e → Any (λ r. Contains (received r) (Back e)) b.notes.items ⊎ Contains c.gone e
+      still e (inl any) = inl (k.kept e any)
+      still e (inr gone) = inr gone
 
 -- ---- asking a listener
 same_rise : {Li : Type 0} (given : Li → ℕ) (first now then : List Li) (t : ℕ) → AsksAt now then t → given_at given then t ≡ given_at given now t → (v : ℕ) → given_at given then v ≡ given_at given now v
@@ -224,11 +234,13 @@ module _ {Li L : Type 0} (given : Li → ℕ) (left : Li → Option (List L)) (i
   pub carries_none_given : (a b : Acceptor L) (entries : List (Entry L)) → GivesNone given left now then t → AsksOnly a b → b.waiting ≡ a.waiting → b.serial ≡ a.serial → b.places ≡ a.places
       → Carries given left identity first now a entries → Carries given left identity first then b entries
   carries_none_given a b entries n s waiting serial places c =
-      let weigh : (h : Card → ℕ) → put identity h b.parcels.items + in_waiting identity h b.waiting ≡ put identity h a.parcels.items + in_waiting identity h a.waiting =
-      λ h. ap₂ (λ v o. put identity h v.items + in_waiting identity h o) s.parcels waiting in
+      let weigh : (h : Card → ℕ) → (put identity h b.parcels.items + in_waiting identity h b.waiting) + let_gone identity h c.gone ≡ (put identity h a.parcels.items + in_waiting identity h a.waiting) + let_gone identity h c.gone =
+      λ h. ap₂ (λ v o. (put identity h v.items + in_waiting identity h o) + let_gone identity h c.gone) s.parcels waiting in
       let same : (v : ℕ) → given_at given then v ≡ given_at given now v = same_rise given first now then t n.asks n.given_same in
       let rises_same : (v : ℕ) → rise given first then v ≡ rise given first now v = λ v. ap (λ m. m - given_at given first v) (same v) in
       record {
+        gone = c.gone;
+        let_go = c.let_go;
         count = weigh (λ c. 1) ∙ c.count ∙ sym serial;
         serials = λ k. weigh (each (has_serial k)) ∙ c.serials k ∙ ap (λ m. once_below m k) (sym serial);
         places = λ v k. weigh (each (has_place v k)) ∙ c.places v k ∙ ap (λ m. once_below m k) (sym (rises_same v));
@@ -237,8 +249,8 @@ module _ {Li L : Type 0} (given : Li → ℕ) (left : Li → Option (List L)) (i
         remains = λ v. same_left n v ∙ c.remains v ∙ ap (λ m. option_map (drop m) (left_at left first v)) (sym (rises_same v));
         rises = λ v. omega (arith, same v, c.rises v);
         next_places = λ v below. ap (λ x. slice_index_or x.items v 0) places ∙ c.next_places v (subst (λ x. v < length x.items) places below) ∙ sym (rises_same v);
-        back = λ h. ap (λ v. came_back identity h v.items) s.notes ∙ c.back h;
-        noted = subst (λ v. All (λ e. Any (λ r. Contains (received r) (Back e)) v.items) entries) (sym s.notes) c.noted;
+        back = λ h. ap (λ v. came_back identity h v.items + let_gone identity h c.gone) s.notes ∙ c.back h;
+        noted = subst (λ v. All (λ e. Any (λ r. Contains (received r) (Back e)) v.items ⊎ Contains c.gone e) entries) (sym s.notes) c.noted;
         out = λ v. ap (λ x. count_put identity x.items v) s.parcels ∙ c.out v ∙ sym (ap₂ (λ n o. count_back identity n.items v + slice_index o v) s.notes s.out);
       }
 
@@ -246,18 +258,20 @@ module _ {Li L : Type 0} (given : Li → ℕ) (left : Li → Option (List L)) (i
   pub carries_got : (a b : Acceptor L) (entries : List (Entry L)) (link : L) → Gives given left now then t link → AsksOnly a b → TakesUp a b t link
       → Carries given left identity first now a entries → Carries given left identity first then b entries
   carries_got a b entries link n s u c =
-      let weigh : (h : Card → ℕ) → put identity h b.parcels.items + in_waiting identity h b.waiting ≡ (put identity h a.parcels.items + in_waiting identity h a.waiting) + h (record { serial = a.serial; token = t; place = slice_index_or a.places.items t 0; identity = identity link }) =
+      let weigh : (h : Card → ℕ) → (put identity h b.parcels.items + in_waiting identity h b.waiting) + let_gone identity h c.gone ≡ ((put identity h a.parcels.items + in_waiting identity h a.waiting) + let_gone identity h c.gone) + h (record { serial = a.serial; token = t; place = slice_index_or a.places.items t 0; identity = identity link }) =
       λ h. omega (arith, ap (λ v. put identity h v.items) s.parcels, ap (in_waiting identity h) u.waiting, ap (in_waiting identity h) u.none) in
       let more : rise given first then t ≡ rise given first now t + 1 = omega (arith, n.given_more, c.rises t) in
       let place_is : slice_index_or a.places.items t 0 ≡ rise given first now t = c.next_places t u.inside in
       let other_rise : (v : ℕ) → v ≢ t → rise given first then v ≡ rise given first now v = λ v other. ap (λ o. option_map_or given o 0 - given_at given first v) (n.asks.others v other) in
       let found = first_left (left_at left first t) (left_at left then t) (left_at left now t) (rise given first now t) link (c.remains t) n.taken in
       record {
+        gone = c.gone;
+        let_go = c.let_go;
         count = omega (arith, weigh (λ c. 1), c.count, u.serial);
         serials = λ k. weigh (each (has_serial k)) ∙ ap (λ m. m + cond (a.serial == k) 1 0) (c.serials k) ∙ sym (once_below-more a.serial k) ∙ ap (λ m. once_below m k) (sym u.serial);
         places = λ v k. elim (cases_eq v t) [
           | inl same ↦ rw same (weigh (each (has_place t k)) ∙ ap₂ (λ m p. m + cond ((t == t) && (p == k)) 1 0) (c.places t k) place_is ∙ itself (rise given first now t) k ∙ ap (λ m. once_below m k) (sym more))
-          | inr other ↦ weigh (each (has_place v k)) ∙ unlike (put identity (each (has_place v k)) a.parcels.items + in_waiting identity (each (has_place v k)) a.waiting) v k (slice_index_or a.places.items t 0) other ∙ c.places v k ∙ ap (λ m. once_below m k) (sym (other_rise v other))
+          | inr other ↦ weigh (each (has_place v k)) ∙ unlike ((put identity (each (has_place v k)) a.parcels.items + in_waiting identity (each (has_place v k)) a.waiting) + let_gone identity (each (has_place v k)) c.gone) v k (slice_index_or a.places.items t 0) other ∙ c.places v k ∙ ap (λ m. once_below m k) (sym (other_rise v other))
         ];
         on_rings = subst (λ v. All (λ p. All (ParcelIsInPlace left first) (sent p)) v.items) (sym s.parcels) c.on_rings;
         waits = subst (λ o. IfSome o (λ w. IsInPlace left first w.token w.place w.link)) (sym u.waiting) (subst (λ p. IsInPlace left first t p link) (sym place_is) found.0);
@@ -274,8 +288,8 @@ module _ {Li L : Type 0} (given : Li → ℕ) (left : Li → Option (List L)) (i
           | inr other ↦ ap (λ xs. slice_index_or xs v 0) u.places ∙ get_or-set_other a.places.items t v (slice_index_or a.places.items t 0 + 1) 0 other
               ∙ c.next_places v (omega (arith, below, ap (λ xs. length xs) u.places, length-set a.places.items t (slice_index_or a.places.items t 0 + 1))) ∙ sym (other_rise v other)
         ];
-        back = λ h. ap (λ v. came_back identity h v.items) s.notes ∙ c.back h;
-        noted = subst (λ v. All (λ e. Any (λ r. Contains (received r) (Back e)) v.items) entries) (sym s.notes) c.noted;
+        back = λ h. ap (λ v. came_back identity h v.items + let_gone identity h c.gone) s.notes ∙ c.back h;
+        noted = subst (λ v. All (λ e. Any (λ r. Contains (received r) (Back e)) v.items ⊎ Contains c.gone e) entries) (sym s.notes) c.noted;
         out = λ v. ap (λ x. count_put identity x.items v) s.parcels ∙ c.out v ∙ sym (ap₂ (λ n o. count_back identity n.items v + slice_index o v) s.notes s.out);
       }
     where

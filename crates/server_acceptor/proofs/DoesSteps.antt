@@ -1,7 +1,8 @@
 -- What the acceptor did, one part behind the other.
 use Rattle.std.proofs.Common.{◌≡◌, ◌≢◌, ◌^◌, ◌≤◌, ◌<◌, ◌⊎◌, ◌++◌, [], ℕ, zero, suc, ◌+◌, Bool, true, false, cond, List, Option, IfSome, refl, sym, ◌∙◌, ap, arith, subst, inl, inr, append_assoc}
-use Rattle.std.specs.Prelude.{count_by, slice_get, slice_index, slice_index_or}
+use Rattle.std.specs.Prelude.{count_by, is_some, slice_get, slice_index, slice_index_or}
 use Rattle.std.proofs.lemmas.List.{append-nil}
+use Rattle.std.proofs.lemmas.List.Elements.{All-append, All-nil}
 use Rattle.std.proofs.lemmas.List.Sums.{sum_by-append}
 use Rattle.std.specs.Option.{option_map_or}
 use Rattle.service_core.specs.Counts.{Rose}
@@ -11,6 +12,7 @@ use Rattle.server_core.specs.declared.event.Event.{Event}
 use Rattle.server_run.specs.Serving.{Untouched}
 use Rattle.server_run.specs.Delivery.{HasEnded, given_at, rest_at}
 use Rattle.server_run.specs.Listener.{Mark, in_a_row}
+use Rattle.server_run.specs.Outcome.{is_stopped}
 use Rattle.server_run.specs.declared.entry.Entry.{Entry}
 use Rattle.server_acceptor.proofs.Giving.{adds_none}
 use Rattle.server_acceptor.specs.Accepting.{Does, EndsByFault, Logged, Proceeds, TellsEnds, is_back, is_failed, is_got, is_sent, marks_of}
@@ -56,6 +58,7 @@ module _ {Li L D : Type 0} (given : Li → ℕ) (left : Li → Option (List L)) 
     passes = record {
       more = [];
       adds = adds_none taken count served d fits;
+      founded = All-nil _;
       carries = λ first entries carries. subst (λ es. Carries given left identity first ls a es) (sym (append-nil entries)) carries;
     };
     awaits = record { stays_ready = λ r. r; early = λ early. untouched_none ls d; noted = λ n. n };
@@ -67,6 +70,7 @@ module _ {Li L D : Type 0} (given : Li → ℕ) (left : Li → Option (List L)) 
     listeners = refl;
     limit = refl;
     lacks = λ is. is;
+    stops = λ is. is;
   }
 
   pub proceeds_none : (ls : List Li) (a : Acceptor L) (d : D) → (count d < 2 ^ 64) × (served d < 2 ^ 64) → Proceeds given left rest identity ended faults taken count served ls ls a a d d
@@ -138,6 +142,7 @@ module _ {Li L D : Type 0} (given : Li → ℕ) (left : Li → Option (List L)) 
       passes = record {
         more = p.passes.more ++ q.passes.more;
         adds = adds_trans taken count served x y z p.passes.more q.passes.more p.passes.adds q.passes.adds;
+        founded = All-append (λ (e : Entry L). is_stopped e.outcome ≡ true → is_some (core_of c).stopping ≡ true) p.passes.more q.passes.more (λ i e inside stopped. q.stops (p.passes.founded i e inside stopped)) q.passes.founded;
         carries = λ first entries carries. subst (λ es. Carries given left identity first n c es) (append_assoc entries p.passes.more q.passes.more)
             (q.passes.carries first (entries ++ p.passes.more) (p.passes.carries first entries carries));
       };
@@ -154,6 +159,7 @@ module _ {Li L D : Type 0} (given : Li → ℕ) (left : Li → Option (List L)) 
       listeners = q.listeners ∙ p.listeners;
       limit = q.limit ∙ p.limit;
       lacks = λ is. q.lacks (p.lacks is);
+      stops = λ is. q.stops (p.stops is);
     }
 
     pub proceeds_trans : Proceeds given left rest identity ended faults taken count served l m a b x y → Proceeds given left rest identity ended faults taken count served m n b c y z

@@ -1,6 +1,6 @@
 -- What comes back from the workers, one note after the other.
 use Rattle.std.proofs.Common.{◌≡◌, ◌≢◌, ℕ, zero, suc, ◌+◌, ◌-◌, ◌<◌, ◌≤◌, true, false, cond, List, [], ◌∷◌, ◌++◌, length, map, get_or, set, sum_by, All, Any, Contains, Some, IfSome, refl, sym, ap, subst, ◌∙◌, arith, nat_lt, inl, inr, get_or-set_same, get_or-set_other}
-use Rattle.std.specs.Prelude.{◌||◌, count_by, nat_eq, slice_get, slice_set, slice_index, sum}
+use Rattle.std.specs.Prelude.{◌||◌, Bool, Option, is_some, count_by, nat_eq, slice_get, slice_set, slice_index, sum}
 use Rattle.std.specs.Option.{option_map_or}
 use Rattle.std.specs.FinSet as set
 use Rattle.std.specs.FinSet.{contains-insert}
@@ -20,6 +20,7 @@ use Rattle.server_core.specs.Numbers.{Numbers}
 use Rattle.server_core.specs.Core.{Core, IsKept, held, in_order, is_worker, step}
 use Rattle.server_core.specs.declared.event.Event.{Event}
 use Rattle.server_core.specs.declared.event.Event.TheVariants.{Notice, Back as BackOf}
+use Rattle.server_run.specs.Outcome.{is_stopped}
 use Rattle.server_run.specs.declared.entry.Entry.{Entry}
 use Rattle.server_jobs.specs.Cards.{Card, of_entry, of_note}
 use Rattle.server_acceptor.specs.Carrying.{came_back}
@@ -193,13 +194,23 @@ AreInTurn s = (v : ℕ) → v < length s.out → in_order s.order v ≡ true
 pub in_turn_kept : (s t : Core) → t.order ≡ s.order → length t.out ≡ length s.out → AreInTurn s → AreInTurn t
 in_turn_kept s t order out are v below = ap (λ xs. in_order xs v) order ∙ are v (omega arith)
 
--- a connection is out at a worker whose next note may be taken, where it is a connection
-pub out_at_back : {L A P : Type 0} (ps : List (Consumer (Note L) A P)) (w out : ℕ) (p : Consumer (Note L) A P) (note : Note L) (rest : List (Note L)) (e : Entry L) → w < length ps → p ≡ get_or ps w p
-    → known_items p ≡ note ∷ rest → note ≡ Back e → IfSome (slice_get ps w) (λ c. MayTake out (known_items c)) → 0 < out
-out_at_back ps w out p note rest e inside is known note_is may =
+-- Where the next note of a worker may be taken and is a connection, one is out at it, and a stop came where it was stopped.
+may_back : {L A P : Type 0} (ps : List (Consumer (Note L) A P)) (w out : ℕ) (stopping : Option Bool) (p : Consumer (Note L) A P) (note : Note L) (rest : List (Note L)) (e : Entry L) → w < length ps → p ≡ get_or ps w p
+    → known_items p ≡ note ∷ rest → note ≡ Back e → IfSome (slice_get ps w) (λ c. MayTake out stopping (known_items c)) → (0 < out) × (is_stopped e.outcome ≡ true → is_some stopping ≡ true)
+may_back ps w out stopping p note rest e inside is known note_is may =
     let there : slice_get ps w ≡ Some p = slice_get-get_or ps w p inside ∙ ap Some (sym is) in
-    let first : MayTake out (known_items p) = rw there at may in
-    subst (λ n. MayTake out (n ∷ rest)) note_is (subst (MayTake out) known first)
+    let first : MayTake out stopping (known_items p) = rw there at may in
+    subst (λ n. MayTake out stopping (n ∷ rest)) note_is (subst (MayTake out stopping) known first)
+
+pub out_at_back : {L A P : Type 0} (ps : List (Consumer (Note L) A P)) (w out : ℕ) (stopping : Option Bool) (p : Consumer (Note L) A P) (note : Note L) (rest : List (Note L)) (e : Entry L) → w < length ps → p ≡ get_or ps w p
+    → known_items p ≡ note ∷ rest → note ≡ Back e → IfSome (slice_get ps w) (λ c. MayTake out stopping (known_items c)) → 0 < out
+out_at_back ps w out stopping p note rest e inside is known note_is may = (may_back ps w out stopping p note rest e inside is known note_is may).0
+
+pub founded_at_back : {L A P : Type 0} (ps : List (Consumer (Note L) A P)) (w out : ℕ) (stopping now : Option Bool) (p : Consumer (Note L) A P) (note : Note L) (rest : List (Note L)) (e : Entry L) → w < length ps → p ≡ get_or ps w p
+    → known_items p ≡ note ∷ rest → note ≡ Back e → IfSome (slice_get ps w) (λ c. MayTake out stopping (known_items c)) → now ≡ stopping
+    → All (λ (x : Entry L). is_stopped x.outcome ≡ true → is_some now ≡ true) (e ∷ [])
+founded_at_back ps w out stopping now p note rest e inside is known note_is may same = All-cons (λ (x : Entry _). is_stopped x.outcome ≡ true → is_some now ≡ true) e []
+    (λ stopped. ap (λ o. is_some o) same ∙ (may_back ps w out stopping p note rest e inside is known note_is may).1 stopped) (All-nil _)
 
 -- ---- the same, where the list of the ends is known by an equation
 module _ {L A P : Type 0} (ns ps : List (Consumer (Note L) A P)) (w : ℕ) (p q : Consumer (Note L) A P) (note : Note L) (e : Entry L) (now : ns ≡ set ps w q)

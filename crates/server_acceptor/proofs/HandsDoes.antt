@@ -19,11 +19,12 @@ use Rattle.server_acceptor.specs.Handing.{AllReturn, Hands}
 use Rattle.server_acceptor.specs.Rings.{count_put, ring_in}
 use Rattle.server_acceptor.specs.declared.acceptor.Acceptor.{Acceptor}
 use Rattle.server_acceptor.proofs.CarrySteps.{carries_handed}
+use Rattle.server_acceptor.proofs.LogSteps.{stops_later}
 use Rattle.server_acceptor.proofs.MarkSteps.{marked_none, marks_without, row_none}
 use Rattle.server_acceptor.proofs.NoteSteps.{same_workers}
 
 -- no such event comes with those of what came back
-count_returns : (test : Event → Bool) → ((w : ℕ) → test (BackOf w) ≡ false) → ((w : ℕ) → test (Notice w) ≡ false) → (events : List Event) → AllReturn events → count_by test events ≡ 0
+pub count_returns : (test : Event → Bool) → ((w : ℕ) → test (BackOf w) ≡ false) → ((w : ℕ) → test (Notice w) ≡ false) → (events : List Event) → AllReturn events → count_by test events ≡ 0
 count_returns test back notice [] all = refl
 count_returns test back notice (e ∷ events) all =
     let one : test e ≡ false = elim all.0 [
@@ -88,6 +89,7 @@ module _ {Li L D : Type 0} (given : Li → ℕ) (left : Li → Option (List L)) 
     passes = record {
       more = h.entries;
       adds = h.adds;
+      founded = h.founded;
       carries = λ first entries carries. carries_handed given left identity first ls taken count served a b old new entries h carries;
     };
     awaits = record { stays_ready = h.ready; early = early_hands fits h; noted = h.marks };
@@ -99,6 +101,7 @@ module _ {Li L D : Type 0} (given : Li → ℕ) (left : Li → Option (List L)) 
     listeners = ap (λ xs. length xs) h.ended;
     limit = h.retry_limit;
     lacks = λ is. h.lacks_room ∙ is;
+    stops = stops_later a.core b.core h.logs.more h.logs.core;
   }
 
   pub hands_proceeds : (count old < 2 ^ 64) × (served old < 2 ^ 64) → Hands identity taken count served a b old new → Proceeds given left rest identity ended faults taken count served ls ls a b old new

@@ -1,11 +1,13 @@
 pub mod AskDoes
 pub mod AskSteps
 pub mod CarrySteps
+pub mod CommandSteps
 pub mod DoesSteps
 pub mod Failing
 pub mod Giving
 pub mod HandSteps
 pub mod HandsDoes
+pub mod LeaveSteps
 pub mod LogSteps
 pub mod MarkSteps
 pub mod NewSteps
@@ -16,7 +18,11 @@ pub mod PlaceSteps
 pub mod PlacedDoes
 pub mod RoomSteps
 pub mod Rotating
+pub mod Sendings
 pub mod StopSteps
+pub mod TakeSteps
 pub mod Taking
 pub mod Trying
 pub mod TurnSteps
+pub mod TurnTakes
+pub mod WordSteps

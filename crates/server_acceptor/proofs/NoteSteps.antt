@@ -1,6 +1,6 @@
 -- Which note of a worker comes next, and what came back, one part after the other.
 use Rattle.std.proofs.Common.{◌≡◌, ◌⊎◌, ℕ, zero, suc, ◌+◌, ◌*◌, ◌^◌, ◌<◌, ◌≤◌, cond, List, [], ◌∷◌, ◌++◌, length, map, get_or, set, sum_by, ◌≢◌, Any, Contains, Option, Some, None, refl, sym, ap, ap₂, subst, ◌∙◌, arith, inl, inr, append_assoc, length-append, get_or-set_same, get_or-set_other}
-use Rattle.std.specs.Prelude.{slice_get, slice_index, vec_len}
+use Rattle.std.specs.Prelude.{is_some, slice_get, slice_index, true, vec_len}
 use Rattle.std.specs.Option.{option_map, option_map_or}
 use Rattle.std.proofs.Math.Seq.{map-set_same}
 use Rattle.std.proofs.Math.ListN.{length-set}
@@ -14,6 +14,7 @@ use Rattle.rtrb.specs.Ring.{known_items, received, SameConsumer}
 use Rattle.rtrb.specs.declared.consumer.Consumer.{Consumer}
 use Rattle.service_core.specs.Link.{Identity}
 use Rattle.server_run.specs.Done.{Adds, is_served}
+use Rattle.server_run.specs.Outcome.{is_stopped}
 use Rattle.server_run.specs.declared.entry.Entry.{Entry}
 use Rattle.std.specs.Prelude.{sum}
 use Rattle.std.specs.Global.{Vec}
@@ -75,15 +76,20 @@ module _ {L D : Type 0} (taken : D → Option (List (Entry L))) (count served : 
     rings = refl;
     back = λ h. omega arith;
     noted = All-nil _;
+    founded = All-nil _;
     kept = λ e k. k;
     balance = λ w. refl;
     ended = refl;
     core_waiting = refl;
     order = refl;
     paused = refl;
+    stopping = refl;
     parcels = refl;
     waiting = refl;
     stopped = refl;
+    forced = refl;
+    stop = refl;
+    shutdown_timeout = refl;
     serial = refl;
     places = refl;
     failed = refl;
@@ -108,15 +114,20 @@ module _ {L D : Type 0} (taken : D → Option (List (Entry L))) (count served : 
     rings = q.rings ∙ p.rings;
     back = λ h. omega (arith, p.back h, q.back h, sum_by-append (of_entry identity h) p.entries q.entries);
     noted = All-append (λ e. Any (λ r. Contains (received r) (Back e)) c.notes.items) p.entries q.entries (λ i x inside. q.kept _ (p.noted i x inside)) q.noted;
+    founded = All-append (λ (e : Entry L). is_stopped e.outcome ≡ true → is_some c.core.stopping ≡ true) p.entries q.entries (λ i x inside stopped. ap (λ o. is_some o) q.stopping ∙ p.founded i x inside stopped) q.founded;
     kept = λ e k. q.kept e (p.kept e k);
     balance = λ w. q.balance w ∙ p.balance w;
     ended = q.ended ∙ p.ended;
     core_waiting = q.core_waiting ∙ p.core_waiting;
     order = q.order ∙ p.order;
     paused = q.paused ∙ p.paused;
+    stopping = q.stopping ∙ p.stopping;
     parcels = q.parcels ∙ p.parcels;
     waiting = q.waiting ∙ p.waiting;
     stopped = q.stopped ∙ p.stopped;
+    forced = q.forced ∙ p.forced;
+    stop = q.stop ∙ p.stop;
+    shutdown_timeout = q.shutdown_timeout ∙ p.shutdown_timeout;
     serial = q.serial ∙ p.serial;
     places = q.places ∙ p.places;
     failed = q.failed ∙ p.failed;

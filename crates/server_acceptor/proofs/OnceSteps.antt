@@ -11,6 +11,7 @@ use Rattle.server_acceptor.specs.Acceptors.{core_of, events_of}
 use Rattle.server_acceptor.specs.Asking.{AskDoes, MakesRoom}
 use Rattle.server_acceptor.specs.declared.acceptor.Acceptor.{Acceptor}
 use Rattle.server_acceptor.proofs.DoesSteps.{proceeds_trans}
+use Rattle.server_acceptor.proofs.LeaveSteps.{leaves_trans}
 use Rattle.server_acceptor.proofs.RoomSteps.{room_asks_none, room_proceeds}
 
 nowhere : (t : ℕ) → IsOutside 0 0 t
@@ -20,6 +21,7 @@ module _ {Li L : Type 0} (l m n : List Li) (a b c : Acceptor L) (from to : ℕ) 
   -- after it nothing was asked
   pub asks_then : AsksFrom l m a b from to → AsksFrom m n b c 0 0 → AsksFrom l n a c from to
   asks_then p q = record {
+    leaves = leaves_trans a b c p.leaves q.leaves;
     first = q.first ∙ p.first;
     listeners = λ t out. q.listeners t (nowhere t) ∙ p.listeners t out;
     failed = λ t out. q.failed t (nowhere t) ∙ p.failed t out;
@@ -31,6 +33,7 @@ module _ {Li L : Type 0} (l m n : List Li) (a b c : Acceptor L) (from to : ℕ) 
   -- nothing was asked before
   pub asks_after : AsksFrom l m a b 0 0 → AsksFrom m n b c from to → AsksFrom l n a c from to
   asks_after p q = record {
+    leaves = leaves_trans a b c p.leaves q.leaves;
     first = q.first ∙ p.first;
     listeners = λ t out. q.listeners t out ∙ p.listeners t (nowhere t);
     failed = λ t out. q.failed t out ∙ p.failed t (nowhere t);

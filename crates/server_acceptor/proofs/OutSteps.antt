@@ -11,6 +11,7 @@ use Rattle.server_acceptor.specs.Accepting.{AsksFrom, AsksInTurn, GaveOrSkipped,
 use Rattle.server_acceptor.specs.Acceptors.{core_of, events_of, failed_of, first_of, listeners_of}
 use Rattle.server_acceptor.specs.Listening.{NeverFall}
 use Rattle.server_acceptor.specs.declared.acceptor.Acceptor.{Acceptor}
+use Rattle.server_acceptor.proofs.LeaveSteps.{leaves_none, leaves_trans}
 
 outside_other : (t v : ℕ) → v ≢ t → IsOutside t (t + 1) v
 outside_other t v other = elim (cases_lt v t) [
@@ -34,7 +35,7 @@ pub record AskedSome {Li L : Type 0} (given waits skips : Li → ℕ) (l m : Lis
 module _ {Li L : Type 0} (given waits skips : Li → ℕ) (l : List Li) (a : Acceptor L) (t : ℕ) where
   pub asked_none : is_open (core_of a) t ≡ true → MayAsk a → AskedSome given waits skips l l a a t 0
   asked_none opened may = record {
-    asks = record { first = refl; listeners = λ v out. refl; failed = λ v out. refl; ended = λ v out. refl; others = λ v out. refl; once = λ v. omega arith };
+    asks = record { leaves = leaves_none a; first = refl; listeners = λ v out. refl; failed = λ v out. refl; ended = λ v out. refl; others = λ v out. refl; once = λ v. omega arith };
     failures = refl;
     opened = opened;
     may = may;
@@ -48,6 +49,7 @@ module _ {Li L : Type 0} (given waits skips : Li → ℕ) (l : List Li) (a : Acc
   module _ (m n : List Li) (b c : Acceptor L) (k : ℕ) (p : AskedSome given waits skips l m a b t k) (q : AsksFrom m n b c t (t + 1)) where
     pub asks_more : AsksFrom l n a c t (t + 1)
     asks_more = record {
+      leaves = leaves_trans a b c p.asks.leaves q.leaves;
       first = q.first ∙ p.asks.first;
       listeners = λ v out. q.listeners v out ∙ p.asks.listeners v out;
       failed = λ v out. q.failed v out ∙ p.asks.failed v out;
@@ -129,7 +131,7 @@ pub record AskedTo {Li L : Type 0} (given waits skips : Li → ℕ) (now : ℕ) 
 module _ {Li L : Type 0} (given waits skips : Li → ℕ) (now : ℕ) (l : List Li) (a : Acceptor L) (from : ℕ) where
   pub to_none : AskedTo given waits skips now l l a a from from
   to_none = record {
-    asks = record { first = refl; listeners = λ v out. refl; failed = λ v out. refl; ended = λ v out. refl; others = λ v out. refl; once = λ v. omega arith };
+    asks = record { leaves = leaves_none a; first = refl; listeners = λ v out. refl; failed = λ v out. refl; ended = λ v out. refl; others = λ v out. refl; once = λ v. omega arith };
     rests = λ v backed. refl;
     outs = λ v above below. absurd (omega arith);
   }
@@ -141,6 +143,7 @@ module _ {Li L : Type 0} (given waits skips : Li → ℕ) (now : ℕ) (l : List 
 
     pub to_asks : AsksFrom l n a c from (t + 1)
     to_asks = record {
+      leaves = leaves_trans a b c p.asks.leaves q.leaves;
       first = q.first ∙ p.asks.first;
       listeners = λ v out. let o = below_one v out in q.listeners v o.1 ∙ p.asks.listeners v o.0;
       failed = λ v out. let o = below_one v out in q.failed v o.1 ∙ p.asks.failed v o.0;
@@ -184,6 +187,7 @@ module _ {Li L : Type 0} (given waits skips : Li → ℕ) (now : ℕ) (l : List 
 -- the same, of no more listeners than that
 pub asks_within : {Li L : Type 0} (l m : List Li) (a b : Acceptor L) (from t to : ℕ) → (t ≤ to) ⊎ (t ≡ from) → AsksFrom l m a b from t → AsksFrom l m a b from to
 asks_within l m a b from t to within p = record {
+  leaves = p.leaves;
   first = p.first;
   listeners = λ v out. p.listeners v (outside v within out);
   failed = λ v out. p.failed v (outside v within out);

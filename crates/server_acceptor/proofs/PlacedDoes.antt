@@ -8,7 +8,7 @@ use Rattle.std.proofs.lemmas.Bool.{cases_eq}
 use Rattle.std.proofs.lemmas.Bool.Decides.{nat_tests}
 use Rattle.std.proofs.lemmas.List.{append_cancel_left}
 use Rattle.std.proofs.lemmas.List.Sums.{sum_by-append}
-use Rattle.std.proofs.lemmas.List.Elements.{Contains-append_left, Contains-append_right, Contains-push}
+use Rattle.std.proofs.lemmas.List.Elements.{All-nil, Contains-append_left, Contains-append_right, Contains-push}
 use Rattle.rtrb.specs.Ring.{known_items, received}
 use Rattle.service_core.specs.Link.{Identity}
 use Rattle.server_core.specs.Core.{Core, held, in_order, step}
@@ -22,12 +22,12 @@ use Rattle.server_run.specs.declared.entry.Entry.{Entry}
 use Rattle.server_acceptor.proofs.Giving.{adds_none}
 use Rattle.server_jobs.specs.declared.note.Note.TheVariants.{Ready}
 use Rattle.server_jobs.specs.declared.waiting.Waiting.{Waiting as IsWaiting}
-use Rattle.server_acceptor.specs.Accepting.{AsksFrom, Does, HasTaken, HasTold, IsRefused, IsShort, Proceeds, is_back, is_failed, is_got, is_sent, marks_of, once_more, received_at, refused, refused_by}
+use Rattle.server_acceptor.specs.Accepting.{AsksFrom, Does, HasTaken, HasTold, IsRefused, IsShort, LeavesStops, Proceeds, is_back, is_command, is_failed, is_got, is_sent, marks_of, once_more, received_at, refused, refused_by}
 use Rattle.server_acceptor.specs.Acceptors.{events_of, out_of}
 use Rattle.server_acceptor.specs.Carrying.{Carries}
 use Rattle.server_acceptor.specs.Handing.{Hands}
 use Rattle.server_acceptor.specs.Logging.{Logs}
-use Rattle.server_acceptor.specs.Notes.{IsBackFirst, count_back}
+use Rattle.server_acceptor.specs.Notes.{AreLeft, count_back}
 use Rattle.server_acceptor.specs.Placing.{parcel_of, refusals, IsPlaced, Stays}
 use Rattle.server_acceptor.specs.Rings.{count_put, ring_in, ring_out}
 use Rattle.server_acceptor.specs.declared.placed.Placed.{Placed}
@@ -36,7 +36,10 @@ use Rattle.server_acceptor.specs.declared.acceptor.Acceptor.{Acceptor}
 use Rattle.server_acceptor.proofs.CarrySteps.{carries_placed, count_kept, count_sent}
 use Rattle.server_acceptor.proofs.DoesSteps.{untouched_none}
 use Rattle.server_acceptor.proofs.HandsDoes.{none_failed, tells_same}
-use Rattle.server_acceptor.proofs.LogSteps.{after_append}
+use Rattle.server_acceptor.proofs.LeaveSteps.{leaves_handed, leaves_trans}
+use Rattle.server_acceptor.proofs.Sendings.{forced_kept, forced_put}
+use Rattle.server_acceptor.specs.Sending.{IsForced}
+use Rattle.server_acceptor.proofs.LogSteps.{after_append, stops_later}
 use Rattle.server_acceptor.proofs.MarkSteps.{marked_none, marks_without, row_none}
 use Rattle.server_acceptor.proofs.NoteSteps.{refused_append, short_still}
 use Rattle.server_acceptor.proofs.PlaceSteps.{sum_higher}
@@ -57,6 +60,14 @@ ended_refusals (w ∷ full) s = ended_refusals full (step (step s (RingFull w)) 
 failures_refusals : (full : List ℕ) (s : Core) → (after_all s (refusals full)).failures ≡ s.failures
 failures_refusals [] s = refl
 failures_refusals (w ∷ full) s = failures_refusals full (step (step s (RingFull w)) (Notice w))
+
+stopping_refusals : (full : List ℕ) (s : Core) → (after_all s (refusals full)).stopping ≡ s.stopping
+stopping_refusals [] s = refl
+stopping_refusals (w ∷ full) s = stopping_refusals full (step (step s (RingFull w)) (Notice w))
+
+paused_refusals : (full : List ℕ) (s : Core) → (after_all s (refusals full)).paused ≡ s.paused
+paused_refusals [] s = refl
+paused_refusals (w ∷ full) s = paused_refusals full (step (step s (RingFull w)) (Notice w))
 
 -- each of them refused
 contains_refusals : (full : List ℕ) (w : ℕ) → in_order full w ≡ true → Contains (refusals full) (RingFull w)
@@ -86,8 +97,12 @@ record Placing {L : Type 0} (identity : L → Identity) (a b : Acceptor L) (even
   failed : (t : ℕ) → count_by (is_failed t) events ≡ 0
   back : (w : ℕ) → count_by (is_back w) events ≡ 0
   sent_on : (w : ℕ) → count_put identity b.parcels.items w ≡ count_put identity a.parcels.items w + count_by (is_sent w) events
+  commands : count_by is_command events ≡ 0
+  paused : b.core.paused ≡ a.core.paused
+  forced : (w : ℕ) → IsForced b.parcels.items w → IsForced a.parcels.items w
   over : b.core.ended ≡ a.core.ended
   failures : b.core.failures ≡ a.core.failures
+  stopping : b.core.stopping ≡ a.core.stopping
   workers : length b.core.out ≡ length a.core.out
   rings : map ring_in b.parcels.items ≡ map ring_in a.parcels.items
 
@@ -105,6 +120,16 @@ module _ {L : Type 0} (identity : L → Identity) (a b : Acceptor L) where
       → ((s : Core) → (after_all s rest).failures ≡ s.failures) → b.core.failures ≡ a.core.failures
   failures_after logs full rest is same = ap (λ (s : Core). s.failures) (logs.core ∙ ap (after_all a.core) (added logs (refusals full ++ rest) is) ∙ after_append a.core (refusals full) rest)
       ∙ same (after_all a.core (refusals full)) ∙ failures_refusals full a.core
+
+  stopping_after : (logs : Logs a.core b.core a.events.items b.events.items) (full : List ℕ) (rest : List Event) → b.events.items ≡ a.events.items ++ (refusals full ++ rest)
+      → ((s : Core) → (after_all s rest).stopping ≡ s.stopping) → b.core.stopping ≡ a.core.stopping
+  stopping_after logs full rest is same = ap (λ (s : Core). s.stopping) (logs.core ∙ ap (after_all a.core) (added logs (refusals full ++ rest) is) ∙ after_append a.core (refusals full) rest)
+      ∙ same (after_all a.core (refusals full)) ∙ stopping_refusals full a.core
+
+  paused_after : (logs : Logs a.core b.core a.events.items b.events.items) (full : List ℕ) (rest : List Event) → b.events.items ≡ a.events.items ++ (refusals full ++ rest)
+      → ((s : Core) → (after_all s rest).paused ≡ s.paused) → b.core.paused ≡ a.core.paused
+  paused_after logs full rest is same = ap (λ (s : Core). s.paused) (logs.core ∙ ap (after_all a.core) (added logs (refusals full ++ rest) is) ∙ after_append a.core (refusals full) rest)
+      ∙ same (after_all a.core (refusals full)) ∙ paused_refusals full a.core
 
   placing : (logs : Logs a.core b.core a.events.items b.events.items) (placed : Placed) → IsPlaced a b placed → Placing identity a b logs.more
   placing logs (Sent w) p =
@@ -136,6 +161,10 @@ module _ {L : Type 0} (identity : L → Identity) (a b : Acceptor L) where
             ];
         over = over_after logs p.full (SentTo w p.remains ∷ []) p.refused.events (λ s. refl);
         failures = failures_after logs p.full (SentTo w p.remains ∷ []) p.refused.events (λ s. refl);
+        stopping = stopping_after logs p.full (SentTo w p.remains ∷ []) p.refused.events (λ s. refl);
+        paused = paused_after logs p.full (SentTo w p.remains ∷ []) p.refused.events (λ s. refl);
+        commands = ap (count_by is_command) xs ∙ count_refusals is_command (λ v. refl) (λ v. refl) p.full (SentTo w p.remains ∷ []);
+        forced = λ v is. forced_put a.parcels.items b.parcels.items w v (parcel_of p.placed) refl p.rings is;
         workers = ap (λ os. length os) p.out ∙ length-set a.core.out w (slice_index a.core.out w + 1);
         rings = p.rings.rings;
       }
@@ -148,6 +177,10 @@ module _ {L : Type 0} (identity : L → Identity) (a b : Acceptor L) where
         sent_on = λ v. omega (arith, count_kept identity a.parcels.items b.parcels.items v p.rings, ap (count_by (is_sent v)) xs, count_refusals (is_sent v) (λ u. refl) (λ u. refl) p.full []);
         over = over_after logs p.full [] p.refused.events (λ s. refl);
         failures = failures_after logs p.full [] p.refused.events (λ s. refl);
+        stopping = stopping_after logs p.full [] p.refused.events (λ s. refl);
+        paused = paused_after logs p.full [] p.refused.events (λ s. refl);
+        commands = ap (count_by is_command) xs ∙ count_refusals is_command (λ v. refl) (λ v. refl) p.full [];
+        forced = λ v is. forced_kept a.parcels.items b.parcels.items p.rings v is;
         workers = ap (λ os. length os) p.out;
         rings = p.rings.rings;
       }
@@ -160,6 +193,10 @@ module _ {L : Type 0} (identity : L → Identity) (a b : Acceptor L) where
         sent_on = λ v. omega (arith, ap (λ ps. count_put identity ps.items v) p.parcels, ap (count_by (is_sent v)) xs);
         over = ap (λ (s : Core). s.ended) p.core;
         failures = ap (λ (s : Core). s.failures) p.core;
+        stopping = ap (λ (s : Core). s.stopping) p.core;
+        paused = ap (λ (s : Core). s.paused) p.core;
+        commands = ap (count_by is_command) xs;
+        forced = λ v is. subst (λ ps. IsForced ps.items v) p.parcels is;
         workers = ap (λ (s : Core). length s.out) p.core;
         rings = ap (λ ps. map ring_in ps.items) p.parcels;
       }
@@ -185,6 +222,7 @@ module _ {Li L D : Type 0} (given : Li → ℕ) (left : Li → Option (List L)) 
         passes = record {
           more = [];
           adds = adds_none taken count served d fits;
+          founded = All-nil _;
           carries = λ first entries carries. subst (λ es. Carries given left identity first ls b es) (sym (append-nil entries)) (carries_placed given left identity first ls a b entries placed s p carries);
         };
         awaits = record {
@@ -200,6 +238,7 @@ module _ {Li L D : Type 0} (given : Li → ℕ) (left : Li → Option (List L)) 
         listeners = ap (λ xs. length xs) k.over;
         limit = s.retry_limit;
         lacks = λ is. s.lacks_room ∙ is;
+        stops = stops_later a.core b.core logs.more logs.core;
       }
 
   pub placed_proceeds : (count d < 2 ^ 64) × (served d < 2 ^ 64) → Logs a.core b.core a.events.items b.events.items → Stays a b → IsPlaced a b placed
@@ -214,12 +253,28 @@ module _ {L : Type 0} (identity : L → Identity) (a b : Acceptor L) (logs : Log
   pub placed_failures : b.core.failures ≡ a.core.failures
   placed_failures = (placing identity a b logs placed p).failures
 
+  pub placed_stopping : b.core.stopping ≡ a.core.stopping
+  placed_stopping = (placing identity a b logs placed p).stopping
+
   pub placed_workers : length b.core.out ≡ length a.core.out
   placed_workers = (placing identity a b logs placed p).workers
 
   -- no listener failed
   pub placed_failed : (t : ℕ) → count_by (is_failed t) (events_of b) ≡ count_by (is_failed t) (events_of a)
   placed_failed t = omega (arith, ap (count_by (is_failed t)) logs.appended, sum_by-append (λ e. cond (is_failed t e) 1 0) a.events.items logs.more, (placing identity a b logs placed p).failed t)
+
+  -- no command came, and no stop went out
+  pub placed_leaves : Stays a b → LeavesStops a b
+  placed_leaves s =
+      let k = placing identity a b logs placed p in
+      record {
+        commands = omega (arith, ap (count_by is_command) logs.appended, sum_by-append (λ e. cond (is_command e) 1 0) a.events.items logs.more, k.commands);
+        paused = k.paused;
+        stopping = k.stopping;
+        stop = s.stop;
+        timeout = s.shutdown_timeout;
+        forced = k.forced;
+      }
 
   -- room for events gets no more
   pub placed_short : IsShort a → IsShort b
@@ -235,12 +290,13 @@ module _ {L : Type 0} (a b : Acceptor L) where
   placed_out Nothing p = ap (λ (s : Core). sum s.out + held s.waiting) p.core
 
   -- what is known of a worker stays where as many are out at it
-  pub told_kept : (v : ℕ) → b.notes ≡ a.notes → slice_index b.core.out v ≡ slice_index a.core.out v → HasTold a v → HasTold b v
-  told_kept v notes out told = subst (λ n. IfSome (slice_get n.items v) (λ c. (known_items c ≡ []) ⊎ ((slice_index b.core.out v ≡ 0) × IsBackFirst (known_items c)))) (sym notes)
-      (subst (λ k. IfSome (slice_get a.notes.items v) (λ c. (known_items c ≡ []) ⊎ ((k ≡ 0) × IsBackFirst (known_items c)))) (sym out) told)
+  pub told_kept : (v : ℕ) → b.notes ≡ a.notes → b.core.stopping ≡ a.core.stopping → slice_index b.core.out v ≡ slice_index a.core.out v → HasTold a v → HasTold b v
+  told_kept v notes stopping out told = subst (λ n. IfSome (slice_get n.items v) (λ c. AreLeft (slice_index b.core.out v) b.core.stopping (known_items c))) (sym notes)
+      (subst (λ o. IfSome (slice_get a.notes.items v) (λ c. AreLeft (slice_index b.core.out v) o (known_items c))) (sym stopping)
+      (subst (λ k. IfSome (slice_get a.notes.items v) (λ c. AreLeft k a.core.stopping (known_items c))) (sym out) told))
 
-  pub told_others : (w v : ℕ) → b.notes ≡ a.notes → IsPlaced a b (Sent w) → v ≢ w → HasTold a v → HasTold b v
-  told_others w v notes p differ told = told_kept v notes (ap (λ os. slice_index os v) p.out ∙ get_or-set_other a.core.out w v (slice_index a.core.out w + 1) 0 differ) told
+  pub told_others : (w v : ℕ) → b.notes ≡ a.notes → b.core.stopping ≡ a.core.stopping → IsPlaced a b (Sent w) → v ≢ w → HasTold a v → HasTold b v
+  told_others w v notes stopping p differ told = told_kept v notes stopping (ap (λ os. slice_index os v) p.out ∙ get_or-set_other a.core.out w v (slice_index a.core.out w + 1) 0 differ) told
 
   -- no ring refused since it was sent
   pub refused_sent : (w : ℕ) → IsPlaced a b (Sent w) → refused (Some []) (events_of a) ≡ Some [] → refused (Some []) (events_of b) ≡ Some []
@@ -269,9 +325,10 @@ pub hands_failed : {L D : Type 0} (identity : L → Identity) (taken : D → Opt
 hands_failed identity taken count served a b d e h t = omega (arith, ap (count_by (is_failed t)) h.logs.appended, sum_by-append (λ x. cond (is_failed t x) 1 0) a.events.items h.logs.more, none_failed h.logs.more t h.returns)
 
 -- no listener is asked
-pub none_asked : {Li L : Type 0} (ls : List Li) (a b : Acceptor L) → b.first ≡ a.first → b.failed ≡ a.failed → b.core.ended ≡ a.core.ended
+pub none_asked : {Li L : Type 0} (ls : List Li) (a b : Acceptor L) → LeavesStops a b → b.first ≡ a.first → b.failed ≡ a.failed → b.core.ended ≡ a.core.ended
     → ((t : ℕ) → count_by (is_failed t) (events_of b) ≡ count_by (is_failed t) (events_of a)) → AsksFrom ls ls a b 0 0
-none_asked ls a b first failed over count = record {
+none_asked ls a b leaves first failed over count = record {
+  leaves = leaves;
   first = first;
   listeners = λ t out. refl;
   failed = λ t out. ap (λ v. slice_index_or v.items t None) failed;
@@ -283,7 +340,7 @@ none_asked ls a b first failed over count = record {
 module _ {L : Type 0} (identity : L → Identity) (a b : Acceptor L) (logs : Logs a.core b.core a.events.items b.events.items) where
   pub has_taken_waits : Stays a b → IsPlaced a b Waiting → HasTaken a → HasTaken b
   has_taken_waits s p told w = elim (told w) [
-    | inl has ↦ inl (told_kept a b w s.notes (ap (λ os. slice_index os w) p.out) has)
+    | inl has ↦ inl (told_kept a b w s.notes (placed_stopping identity a b logs Waiting p) (ap (λ os. slice_index os w) p.out) has)
     | inr short ↦ inr (placed_short identity a b logs Waiting p short)
   ]
 
@@ -292,12 +349,12 @@ module _ {L : Type 0} (identity : L → Identity) (a b : Acceptor L) (logs : Log
   has_taken_sent taken count served c d e w s p h others this told v = elim (cases_eq v w) [
     | inl same ↦ rw same this
     | inr differ ↦ elim (told v) [
-      | inl has ↦ inl (others v differ (told_others a b w v s.notes p differ has))
+      | inl has ↦ inl (others v differ (told_others a b w v s.notes (placed_stopping identity a b logs (Sent w) p) p differ has))
       | inr short ↦ inr (short_still identity taken count served b c d e h (placed_short identity a b logs (Sent w) p short))
     ]
   ]
 
   pub asked_none : {Li D : Type 0} (ls : List Li) (taken : D → Option (List (Entry L))) (count served : D → ℕ) (c : Acceptor L) (d e : D) (w : ℕ) → Stays a b → IsPlaced a b (Sent w) → Hands identity taken count served b c d e
       → AsksFrom ls ls a c 0 0
-  asked_none ls taken count served c d e w s p h = none_asked ls a c (h.first ∙ s.first) (h.failed ∙ s.failed) (h.ended ∙ placed_over identity a b logs (Sent w) p)
+  asked_none ls taken count served c d e w s p h = none_asked ls a c (leaves_trans a b c (placed_leaves identity a b logs (Sent w) p s) (leaves_handed identity taken count served b c d e h)) (h.first ∙ s.first) (h.failed ∙ s.failed) (h.ended ∙ placed_over identity a b logs (Sent w) p)
       (λ t. hands_failed identity taken count served b c d e h t ∙ placed_failed identity a b logs (Sent w) p t)

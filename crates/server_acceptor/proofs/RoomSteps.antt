@@ -1,10 +1,11 @@
 -- That room was made, or was refused.
-use Rattle.std.proofs.Common.{◌≡◌, ◌^◌, ◌<◌, ◌≤◌, ◌++◌, ◌∷◌, [], ℕ, suc, ◌+◌, ◌*◌, Bool, true, false, List, length, map, All, Any, Contains, Option, Some, None, IfSome, refl, sym, ◌∙◌, ap, ap₂, arith, subst, inl}
-use Rattle.std.specs.Prelude.{count_by, nat_lt, slice_get, slice_index, slice_index_or, sum}
+use Rattle.std.proofs.Common.{◌≡◌, ◌⊎◌, ◌^◌, ◌<◌, ◌≤◌, ◌++◌, ◌∷◌, [], ℕ, suc, ◌+◌, ◌*◌, Bool, true, false, List, length, map, All, Any, Contains, Option, Some, None, IfSome, refl, sym, ◌∙◌, ap, ap₂, arith, subst, inl}
+use Rattle.std.specs.Prelude.{count_by, is_some, nat_lt, slice_get, slice_index, slice_index_or, sum}
 use Rattle.std.specs.List.{list_all}
 use Rattle.std.specs.Option.{option_map}
 use Rattle.std.proofs.lemmas.Bool.Decides.{nat_tests}
 use Rattle.std.proofs.lemmas.List.{append-nil}
+use Rattle.std.proofs.lemmas.List.Elements.{All-nil}
 use Rattle.std.proofs.lemmas.List.Sums.{sum_by-cons}
 use Rattle.rtrb.specs.Ring.{received, sent}
 use Rattle.service_core.specs.Link.{Identity}
@@ -16,21 +17,24 @@ use Rattle.server_run.specs.declared.entry.Entry.{Entry}
 use Rattle.server_jobs.specs.Cards.{Card}
 use Rattle.server_jobs.specs.declared.note.Note.TheVariants.{Back, Ready}
 use Rattle.server_jobs.specs.declared.waiting.Waiting.{Waiting}
-use Rattle.server_acceptor.specs.Accepting.{AsksFrom, MayAsk, Proceeds, is_failed, marks_of, received_at}
+use Rattle.server_acceptor.specs.Accepting.{AsksFrom, IsAccepting, MayAsk, Proceeds, is_failed, marks_of, received_at}
 use Rattle.server_acceptor.specs.Acceptors.{events_of}
 use Rattle.server_acceptor.specs.Asking.{MakesRoom}
-use Rattle.server_acceptor.specs.Carrying.{Carries, IsInPlace, ParcelIsInPlace, came_back, each, has_place, has_serial, in_waiting, put}
+use Rattle.server_acceptor.specs.Carrying.{Carries, IsInPlace, ParcelIsInPlace, came_back, each, has_place, has_serial, in_waiting, let_gone, put}
 use Rattle.server_acceptor.specs.Notes.{count_back}
 use Rattle.server_acceptor.specs.Rings.{count_put, ring_in, ring_out}
 use Rattle.server_acceptor.specs.declared.acceptor.Acceptor.{Acceptor}
+use Rattle.server_acceptor.proofs.LeaveSteps.{leaves_room}
 use Rattle.server_acceptor.proofs.MarkSteps.{marked_none}
 
 module _ {Li L : Type 0} (given : Li → ℕ) (left : Li → Option (List L)) (identity : L → Identity) (first now : List Li) where
   carries_room : (a b : Acceptor L) (entries : List (Entry L)) → MakesRoom a b → Carries given left identity first now a entries → Carries given left identity first now b entries
   carries_room a b entries s c =
-      let weigh : (h : Card → ℕ) → put identity h b.parcels.items + in_waiting identity h b.waiting ≡ put identity h a.parcels.items + in_waiting identity h a.waiting =
-      λ h. ap₂ (λ v o. put identity h v.items + in_waiting identity h o) s.parcels s.waiting in
+      let weigh : (h : Card → ℕ) → (put identity h b.parcels.items + in_waiting identity h b.waiting) + let_gone identity h c.gone ≡ (put identity h a.parcels.items + in_waiting identity h a.waiting) + let_gone identity h c.gone =
+      λ h. ap₂ (λ v o. (put identity h v.items + in_waiting identity h o) + let_gone identity h c.gone) s.parcels s.waiting in
       record {
+        gone = c.gone;
+        let_go = c.let_go;
         count = weigh (λ c. 1) ∙ c.count ∙ sym s.serial;
         serials = λ k. weigh (each (has_serial k)) ∙ c.serials k ∙ ap (λ n. once_below n k) (sym s.serial);
         places = λ t k. weigh (each (has_place t k)) ∙ c.places t k;
@@ -39,8 +43,8 @@ module _ {Li L : Type 0} (given : Li → ℕ) (left : Li → Option (List L)) (i
         remains = c.remains;
         rises = c.rises;
         next_places = λ t below. ap (λ v. slice_index_or v.items t 0) s.places ∙ c.next_places t (subst (λ v. t < length v.items) s.places below);
-        back = λ h. ap (λ v. came_back identity h v.items) s.notes ∙ c.back h;
-        noted = subst (λ v. All (λ e. Any (λ r. Contains (received r) (Back e)) v.items) entries) (sym s.notes) c.noted;
+        back = λ h. ap (λ v. came_back identity h v.items + let_gone identity h c.gone) s.notes ∙ c.back h;
+        noted = subst (λ v. All (λ e. Any (λ r. Contains (received r) (Back e)) v.items ⊎ Contains c.gone e) entries) (sym s.notes) c.noted;
         out = λ v. ap (λ x. count_put identity x.items v) s.parcels ∙ c.out v ∙ sym (ap₂ (λ n o. count_back identity n.items v + slice_index o.out v) s.notes s.core);
       }
 
@@ -78,6 +82,7 @@ module _ {Li L D : Type 0} (given : Li → ℕ) (left : Li → Option (List L)) 
       passes = record {
         more = [];
         adds = keeps_adds taken count served d e fits k;
+        founded = All-nil _;
         carries = λ first entries carries. subst (λ es. Carries given left identity first ls b es) (sym (append-nil entries)) (carries_room given left identity first ls a b entries s carries);
       };
       awaits = record {
@@ -98,11 +103,13 @@ module _ {Li L D : Type 0} (given : Li → ℕ) (left : Li → Option (List L)) 
       listeners = ap (λ k. length k.ended) s.core;
       limit = s.retry_limit;
       lacks = s.lacks;
+      stops = λ is. ap (λ k. is_some k.stopping) s.core ∙ is;
     };
   }
 
 pub room_asks_none : {Li L : Type 0} (ls : List Li) (a b : Acceptor L) (from to : ℕ) → MakesRoom a b → AsksFrom ls ls a b from to
 room_asks_none ls a b from to s = record {
+  leaves = leaves_room a b s;
   first = s.first;
   listeners = λ t out. refl;
   failed = λ t out. ap (λ v. slice_index_or v.items t None) s.failed;
@@ -119,9 +126,9 @@ sum_within (x ∷ xs) below = omega (arith, sum_by-cons (λ n. n) x xs, below 0,
 pub few_given : {L : Type 0} (a : Acceptor L) → a.core.given < 2 ^ 60
 few_given a = omega (arith, a.counted, a.placed, a.few, a.listeners.0, sum_within a.places.items a.small)
 
-pub may_take_now : {L : Type 0} (a : Acceptor L) → MayAsk a → may_take a.core ≡ true
-may_take_now a may =
+pub may_take_now : {L : Type 0} (a : Acceptor L) → MayAsk a → IsAccepting a.core → may_take a.core ≡ true
+may_take_now a may accepts =
     let none : a.core.waiting ≡ None = a.waits ∙ ap (option_map (λ (w : Waiting _). w.token)) may.none in
     let few = few_given a in
     let less : nat_lt a.core.given (2 ^ 60) ≡ true = grind (arith, nat_tests) in
-    rw (none, a.unpaused, a.unstopped, less) refl
+    rw (none, accepts.0, accepts.1, less) refl

@@ -1,9 +1,10 @@
 -- That stops on the rings carry no connection.
 use Rattle.std.proofs.Common.{◌≡◌, ◌^◌, ◌<◌, ◌⊎◌, [], ℕ, ◌+◌, Bool, true, false, List, length, map, All, Any, Contains, Option, IfSome, refl, sym, ◌∙◌, ap, ap₂, arith, subst, inl, inr}
-use Rattle.std.specs.Prelude.{◌&&◌, not, nat_lt, slice_get, slice_index, slice_index_or}
+use Rattle.std.specs.Prelude.{◌&&◌, is_some, not, nat_lt, slice_get, slice_index, slice_index_or}
 use Rattle.std.proofs.lemmas.Bool.{cases_eq}
 use Rattle.std.proofs.lemmas.Bool.Decides.{nat_tests}
 use Rattle.std.proofs.lemmas.List.{append-nil, get_or_default}
+use Rattle.std.proofs.lemmas.List.Elements.{All-nil}
 use Rattle.std.specs.declared.alloc.Global.{Global}
 use Rattle.rtrb.specs.Ring.{received, sent}
 use Rattle.rtrb.specs.declared.AnyItems.{AnyItems}
@@ -21,7 +22,7 @@ use Rattle.server_jobs.specs.declared.parcel.Parcel.{Parcel}
 use Rattle.server_jobs.specs.declared.parcel.Parcel.TheVariants.{Stop}
 use Rattle.server_acceptor.specs.Accepting.{Proceeds, marks_of, received_at}
 use Rattle.server_acceptor.specs.Acceptors.{events_of}
-use Rattle.server_acceptor.specs.Carrying.{Carries, IsInPlace, ParcelIsInPlace, came_back, each, has_place, has_serial, in_waiting, put}
+use Rattle.server_acceptor.specs.Carrying.{Carries, IsInPlace, ParcelIsInPlace, came_back, each, has_place, has_serial, in_waiting, let_gone, put}
 use Rattle.server_acceptor.specs.Notes.{count_back}
 use Rattle.server_acceptor.specs.Placing.{KeepsSent, PutsAt}
 use Rattle.server_acceptor.specs.Rings.{count_put, ring_in, ring_out}
@@ -36,7 +37,7 @@ abbrev pub PutsStop : {L : Type 0} → List (Producer (Parcel L) Global AnyItems
 PutsStop ps qs = KeepsSent ps qs ⊎ ((w : ℕ) × (graceful : Bool) × PutsAt ps qs w (Stop graceful))
 
 pub stops_none : {L : Type 0} (a : Acceptor L) → StopsOnly a a
-stops_none a = record { core = refl; events = refl; notes = refl; ready = refl; waiting = refl; serial = refl; places = refl; failed = refl; first = refl; retry_limit = refl; lacks_room = refl }
+stops_none a = record { core = refl; events = refl; notes = refl; ready = refl; waiting = refl; serial = refl; places = refl; failed = refl; first = refl; retry_limit = refl; shutdown_timeout = refl; lacks_room = refl; stop = refl }
 
 pub stops_trans : {L : Type 0} (a b c : Acceptor L) → StopsOnly a b → StopsOnly b c → StopsOnly a c
 stops_trans a b c p q = record {
@@ -50,7 +51,9 @@ stops_trans a b c p q = record {
   failed = q.failed ∙ p.failed;
   first = q.first ∙ p.first;
   retry_limit = q.retry_limit ∙ p.retry_limit;
+  shutdown_timeout = q.shutdown_timeout ∙ p.shutdown_timeout;
   lacks_room = q.lacks_room ∙ p.lacks_room;
+  stop = q.stop ∙ p.stop;
 }
 
 module _ {L : Type 0} (identity : L → Identity) (ps qs : List (Producer (Parcel L) Global AnyItems)) where
@@ -69,9 +72,11 @@ module _ {Li L : Type 0} (given : Li → ℕ) (left : Li → Option (List L)) (i
 
   carries_stop : (a b : Acceptor L) (entries : List (Entry L)) → StopsOnly a b → PutsStop a.parcels.items b.parcels.items → Carries given left identity first now a entries → Carries given left identity first now b entries
   carries_stop a b entries s p c =
-      let weigh : (h : Card → ℕ) → put identity h b.parcels.items + in_waiting identity h b.waiting ≡ put identity h a.parcels.items + in_waiting identity h a.waiting =
+      let weigh : (h : Card → ℕ) → (put identity h b.parcels.items + in_waiting identity h b.waiting) + let_gone identity h c.gone ≡ (put identity h a.parcels.items + in_waiting identity h a.waiting) + let_gone identity h c.gone =
       λ h. omega (arith, put_same identity a.parcels.items b.parcels.items h p, ap (in_waiting identity h) s.waiting) in
       record {
+        gone = c.gone;
+        let_go = c.let_go;
         count = weigh (λ c. 1) ∙ c.count ∙ sym s.serial;
         serials = λ k. weigh (each (has_serial k)) ∙ c.serials k ∙ ap (λ n. once_below n k) (sym s.serial);
         places = λ t k. weigh (each (has_place t k)) ∙ c.places t k;
@@ -80,8 +85,8 @@ module _ {Li L : Type 0} (given : Li → ℕ) (left : Li → Option (List L)) (i
         remains = c.remains;
         rises = c.rises;
         next_places = λ t below. ap (λ v. slice_index_or v.items t 0) s.places ∙ c.next_places t (subst (λ v. t < length v.items) s.places below);
-        back = λ h. ap (λ v. came_back identity h v.items) s.notes ∙ c.back h;
-        noted = subst (λ v. All (λ e. Any (λ r. Contains (received r) (Back e)) v.items) entries) (sym s.notes) c.noted;
+        back = λ h. ap (λ v. came_back identity h v.items + let_gone identity h c.gone) s.notes ∙ c.back h;
+        noted = subst (λ v. All (λ e. Any (λ r. Contains (received r) (Back e)) v.items ⊎ Contains c.gone e) entries) (sym s.notes) c.noted;
         out = λ v. count_same identity a.parcels.items b.parcels.items v p ∙ c.out v ∙ sym (ap₂ (λ n o. count_back identity n.items v + slice_index o.out v) s.notes s.core);
       }
 
@@ -107,6 +112,7 @@ module _ {Li L D : Type 0} (given : Li → ℕ) (left : Li → Option (List L)) 
       passes = record {
         more = [];
         adds = adds_none taken count served d fits;
+        founded = All-nil _;
         carries = λ first entries carries. subst (λ es. Carries given left identity first ls b es) (sym (append-nil entries)) (carries_stop given left identity first ls a b entries s p carries);
       };
       awaits = record {
@@ -127,6 +133,7 @@ module _ {Li L D : Type 0} (given : Li → ℕ) (left : Li → Option (List L)) 
       listeners = ap (λ k. length k.ended) s.core;
       limit = s.retry_limit;
       lacks = λ is. s.lacks_room ∙ is;
+      stops = λ is. ap (λ k. is_some k.stopping) s.core ∙ is;
     };
   }
 

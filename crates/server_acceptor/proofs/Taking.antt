@@ -1,5 +1,5 @@
 -- One ring from which notes were taken, seen in the list of the rings of all workers.
-use Rattle.std.proofs.Common.{◌≡◌, ◌≢◌, ◌⊎◌, ℕ, zero, suc, ◌+◌, ◌-◌, ◌<◌, Bool, true, false, true≢false, cond, List, [], ◌∷◌, ◌++◌, length, get_or, set, sum_by, Contains, Option, Some, IfSome, refl, sym, ap, subst, ◌∙◌, arith, inl, inr, get_or-set_same, get_or-set_other}
+use Rattle.std.proofs.Common.{◌≡◌, ◌≢◌, ℕ, zero, suc, ◌+◌, ◌-◌, ◌<◌, Bool, true, false, true≢false, cond, List, [], ◌∷◌, ◌++◌, length, get_or, set, sum_by, Contains, Option, Some, IfSome, refl, sym, ap, subst, ◌∙◌, arith, inl, inr, get_or-set_same, get_or-set_other}
 use Rattle.std.specs.Prelude.{nat_eq, slice_get, slice_index, slice_index_or, slice_set}
 use Rattle.std.specs.List.{list_all}
 use Rattle.std.specs.Option.{option_map_or}
@@ -13,10 +13,11 @@ use Rattle.std.proofs.lemmas.Option.{slice_get-get_or}
 use Rattle.rtrb.specs.Ring.{known_items, received}
 use Rattle.rtrb.specs.declared.consumer.Consumer.{Consumer}
 use Rattle.service_core.specs.Link.{Identity}
+use Rattle.server_core.specs.Core.{Core}
 use Rattle.server_jobs.specs.Cards.{of_note}
 use Rattle.server_jobs.specs.declared.note.Note.{Note}
 use Rattle.server_acceptor.specs.Accepting.{received_at}
-use Rattle.server_acceptor.specs.Notes.{IsBackFirst, count_back}
+use Rattle.server_acceptor.specs.Notes.{AreLeft, count_back}
 
 where_some : {X : Type 0} (P : X → Type 0) (o : Option X) (x : X) → o ≡ Some x → P x → IfSome o P
 where_some P o x is p = rw is p
@@ -103,11 +104,11 @@ module _ {L A P : Type 0} (ns ps : List (Consumer (Note L) A P)) (w : ℕ) (p q 
   ]
 
   -- what is known of the others stays
-  pub told_still : (before after : List ℕ) (v : ℕ) → slice_index after v ≡ slice_index before v → v ≢ w
-      → IfSome (slice_get ps v) (λ c. (known_items c ≡ []) ⊎ ((slice_index before v ≡ 0) × IsBackFirst (known_items c)))
-      → IfSome (slice_get ns v) (λ c. (known_items c ≡ []) ⊎ ((slice_index after v ≡ 0) × IsBackFirst (known_items c)))
-  told_still before after v same differ told = subst (λ o. IfSome o (λ c. (known_items c ≡ []) ⊎ ((slice_index after v ≡ 0) × IsBackFirst (known_items c)))) (sym (elsewhere v differ))
-      (subst (λ k. IfSome (slice_get ps v) (λ c. (known_items c ≡ []) ⊎ ((k ≡ 0) × IsBackFirst (known_items c)))) (sym same) told)
+  pub told_still : (s t : Core) (v : ℕ) → t.stopping ≡ s.stopping → slice_index t.out v ≡ slice_index s.out v → v ≢ w
+      → IfSome (slice_get ps v) (λ c. AreLeft (slice_index s.out v) s.stopping (known_items c)) → IfSome (slice_get ns v) (λ c. AreLeft (slice_index t.out v) t.stopping (known_items c))
+  told_still s t v stopping same differ told = subst (λ o. IfSome o (λ c. AreLeft (slice_index t.out v) t.stopping (known_items c))) (sym (elsewhere v differ))
+      (subst (λ k. IfSome (slice_get ps v) (λ c. AreLeft (slice_index t.out v) k (known_items c))) (sym stopping)
+      (subst (λ k. IfSome (slice_get ps v) (λ c. AreLeft k s.stopping (known_items c))) (sym same) told))
 
   pub backs_more : (identity : L → Identity) (v : ℕ) → count_back identity ns v ≡ count_back identity ps v + cond (nat_eq w v) (sum_by (of_note identity (λ x. 1)) more) 0
   backs_more identity v = elim (cases_eq v w) [

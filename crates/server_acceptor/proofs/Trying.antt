@@ -28,13 +28,15 @@ use Rattle.server_acceptor.proofs.PlaceSteps.{free_again, full_then, may_offer, 
 use Rattle.server_acceptor.proofs.Rotating.{PassedLast, distinct_times, none_passed, passed_on, picked_first, times, times_round, times_some, tried_one, turned, untried, untried-le}
 
 pub stays_none : {L : Type 0} (a : Acceptor L) → Stays a a
-stays_none a = record { notes = refl; ready = refl; stopped = refl; serial = refl; places = refl; failed = refl; first = refl; limit = refl; retry_limit = refl; shutdown_timeout = refl; lacks_room = refl }
+stays_none a = record { notes = refl; ready = refl; stopped = refl; forced = refl; stop = refl; serial = refl; places = refl; failed = refl; first = refl; limit = refl; retry_limit = refl; shutdown_timeout = refl; lacks_room = refl }
 
 pub stays_trans : {L : Type 0} {a b c : Acceptor L} → Stays a b → Stays b c → Stays a c
 stays_trans p q = record {
   notes = q.notes ∙ p.notes;
   ready = q.ready ∙ p.ready;
   stopped = q.stopped ∙ p.stopped;
+  forced = q.forced ∙ p.forced;
+  stop = q.stop ∙ p.stop;
   serial = q.serial ∙ p.serial;
   places = q.places ∙ p.places;
   failed = q.failed ∙ p.failed;

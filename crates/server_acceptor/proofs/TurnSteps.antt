@@ -7,13 +7,16 @@ use Rattle.rtrb.specs.Ring.{known_items, received, sent}
 use Rattle.server_core.specs.declared.event.Event.TheVariants.{RingFull}
 use Rattle.server_acceptor.specs.declared.accept_turn.AcceptTurn.TheVariants.{WorkerEnded as TurnEnded}
 use Rattle.server_core.specs.Runs.{AllAllowed, after_all}
+use Rattle.server_jobs.specs.Cards.{Card}
 use Rattle.server_run.specs.Delivery.{once_below}
 use Rattle.server_jobs.specs.declared.note.Note.TheVariants.{Back, Ready}
-use Rattle.server_acceptor.specs.Carrying.{Carries, IsInPlace, ParcelIsInPlace, came_back, each, has_place, has_serial, in_waiting, put}
-use Rattle.server_acceptor.specs.Notes.{IsBackFirst, count_back}
+use Rattle.server_acceptor.specs.Carrying.{Carries, IsInPlace, ParcelIsInPlace, came_back, each, has_place, has_serial, in_waiting, let_gone, put}
+use Rattle.server_acceptor.specs.Notes.{AreLeft, count_back}
 use Rattle.server_acceptor.specs.Logging.{AllOfUse}
 use Rattle.server_acceptor.specs.Rings.{count_put, ring_in, ring_out}
-use Rattle.server_acceptor.specs.Stopping.{StopsOnly}
+use Rattle.server_acceptor.specs.Stopping.{AwaitsStop, LacksStop, StopsOnly}
+use Rattle.service_core.specs.Counts.{Rose}
+use Rattle.server_core.specs.Core.{Core}
 use Rattle.server_acceptor.specs.declared.step.Step.{Step}
 use Rattle.server_acceptor.specs.declared.step.Step.TheVariants.{On, Settled, Halted, WorkerEnded}
 use Rattle.server_acceptor.proofs.DoesSteps.{does_trans}
@@ -21,9 +24,10 @@ use Rattle.std.specs.Prelude.{sum, nat_lt, IsSomeAnd, count_by, is_some, slice_g
 use Rattle.service_core.specs.Link.{Identity}
 use Rattle.server_run.specs.Delivery.{given_at}
 use Rattle.server_run.specs.Listener.{Mark, in_a_row}
+use Rattle.server_run.specs.Outcome.{is_stopped}
 use Rattle.server_run.specs.declared.entry.Entry.{Entry}
 use Rattle.server_core.specs.declared.event.Event.{Event}
-use Rattle.server_acceptor.specs.Accepting.{AcceptGoesOn, AsksInTurn, Does, EndsByFault, HasHalted, HasTaken, HasTold, IsAskedOut, IsOver, IsShort, LacksStop, MayAsk, OnceEach, Proceeds, TellsEnds, is_back, is_failed, is_sent, marks_of, received_at, refused, turn_of}
+use Rattle.server_acceptor.specs.Accepting.{AcceptGoesOn, AsksInTurn, Does, EndsByFault, HasHalted, HasTaken, HasTold, IsAccepting, IsAskedOut, IsOver, IsShort, MayAsk, OnceEach, Proceeds, TellsEnds, is_back, is_command, is_failed, is_sent, marks_of, received_at, refused, turn_of}
 use Rattle.server_acceptor.specs.Acceptors.{all_ready, core_of, events_of, failed_of, first_of, lacks_room_of, listeners_of, places_of, waiting_of, workers_of}
 use Rattle.server_acceptor.specs.declared.acceptor.Acceptor.{Acceptor}
 
@@ -57,18 +61,23 @@ same_back a b s = record {
 module _ {Li L : Type 0} (given : Li → ℕ) (left : Li → Option (List L)) (identity : L → Identity) (first now : List Li) where
   carries_same : (a b : Acceptor L) (entries : List (Entry L)) → SameBut a b → Carries given left identity first now a entries → Carries given left identity first now b entries
   carries_same a b entries s c = record {
-    count = ap₂ (λ p o. put identity (λ c. 1) p.items + in_waiting identity (λ c. 1) o) s.parcels s.waiting ∙ c.count ∙ sym s.serial;
-    serials = λ k. ap₂ (λ p o. put identity (each (has_serial k)) p.items + in_waiting identity (each (has_serial k)) o) s.parcels s.waiting ∙ c.serials k ∙ ap (λ n. once_below n k) (sym s.serial);
-    places = λ t k. ap₂ (λ p o. put identity (each (has_place t k)) p.items + in_waiting identity (each (has_place t k)) o) s.parcels s.waiting ∙ c.places t k;
+    gone = c.gone;
+    let_go = c.let_go;
+    count = weigh (λ c. 1) ∙ c.count ∙ sym s.serial;
+    serials = λ k. weigh (each (has_serial k)) ∙ c.serials k ∙ ap (λ n. once_below n k) (sym s.serial);
+    places = λ t k. weigh (each (has_place t k)) ∙ c.places t k;
     on_rings = subst (λ v. All (λ p. All (ParcelIsInPlace left first) (sent p)) v.items) (sym s.parcels) c.on_rings;
     waits = subst (λ o. IfSome o (λ w. IsInPlace left first w.token w.place w.link)) (sym s.waiting) c.waits;
     remains = c.remains;
     rises = c.rises;
     next_places = λ t below. ap (λ v. slice_index_or v.items t 0) s.places ∙ c.next_places t (subst (λ v. t < length v.items) s.places below);
-    back = λ h. ap (λ v. came_back identity h v.items) s.notes ∙ c.back h;
-    noted = subst (λ v. All (λ e. Any (λ r. Contains (received r) (Back e)) v.items) entries) (sym s.notes) c.noted;
+    back = λ h. ap (λ v. came_back identity h v.items + let_gone identity h c.gone) s.notes ∙ c.back h;
+    noted = subst (λ v. All (λ e. Any (λ r. Contains (received r) (Back e)) v.items ⊎ Contains c.gone e) entries) (sym s.notes) c.noted;
     out = λ v. ap (λ x. count_put identity x.items v) s.parcels ∙ c.out v ∙ sym (ap₂ (λ n o. count_back identity n.items v + slice_index o.out v) s.notes s.core);
   }
+    where
+      weigh : (h : Card → ℕ) → (put identity h b.parcels.items + in_waiting identity h b.waiting) + let_gone identity h c.gone ≡ (put identity h a.parcels.items + in_waiting identity h a.waiting) + let_gone identity h c.gone
+      weigh h = ap₂ (λ p o. (put identity h p.items + in_waiting identity h o) + let_gone identity h c.gone) s.parcels s.waiting
 
 module _ {Li L D : Type 0} (given : Li → ℕ) (left : Li → Option (List L)) (rest : Li → Option (List Mark)) (identity : L → Identity) (ended : Li → Bool) (faults : Li → ℕ)
     (taken : D → Option (List (Entry L))) (count served : D → ℕ) (l m : List Li) (x y : D) (events : List Event) where
@@ -86,7 +95,7 @@ module _ {Li L D : Type 0} (given : Li → ℕ) (left : Li → Option (List L)) 
       sent_on = λ w. p.logged.sent_on w ∙ ap (λ v. count_put identity v.items w + count_by (is_sent w) events) (sym s.parcels);
       back = λ w. p.logged.back w ∙ ap (λ v. count_back identity v.items w + count_by (is_back w) events) (sym s.notes);
     };
-    passes = record { more = p.passes.more; adds = p.passes.adds; carries = λ first entries c. p.passes.carries first entries (carries_same given left identity first l a2 a entries (same_back a a2 s) c) };
+    passes = record { more = p.passes.more; adds = p.passes.adds; founded = p.passes.founded; carries = λ first entries c. p.passes.carries first entries (carries_same given left identity first l a2 a entries (same_back a a2 s) c) };
     awaits = record {
       stays_ready = λ r. p.awaits.stays_ready (ap (λ v. list_all (λ ready. ready) v.items) (sym s.ready) ∙ r);
       early = p.awaits.early;
@@ -100,6 +109,7 @@ module _ {Li L D : Type 0} (given : Li → ℕ) (left : Li → Option (List L)) 
     listeners = p.listeners ∙ ap (λ k. length k.ended) (sym s.core);
     limit = p.limit ∙ sym s.retry_limit;
     lacks = λ is. p.lacks (sym s.lacks_room ∙ is);
+    stops = λ is. p.stops (ap (λ k. is_some k.stopping) (sym s.core) ∙ is);
   }
 
   -- and one that came to an acceptor that is the same
@@ -116,7 +126,7 @@ module _ {Li L D : Type 0} (given : Li → ℕ) (left : Li → Option (List L)) 
       sent_on = λ w. ap (λ v. count_put identity v.items w) s.parcels ∙ p.logged.sent_on w;
       back = λ w. ap (λ v. count_back identity v.items w) s.notes ∙ p.logged.back w;
     };
-    passes = record { more = p.passes.more; adds = p.passes.adds; carries = λ first entries c. carries_same given left identity first m b b2 (entries ++ p.passes.more) s (p.passes.carries first entries c) };
+    passes = record { more = p.passes.more; adds = p.passes.adds; founded = subst (λ k. All (λ (e : Entry L). is_stopped e.outcome ≡ true → is_some k.stopping ≡ true) p.passes.more) (sym s.core) p.passes.founded; carries = λ first entries c. carries_same given left identity first m b b2 (entries ++ p.passes.more) s (p.passes.carries first entries c) };
     awaits = record {
       stays_ready = λ r. ap (λ v. list_all (λ ready. ready) v.items) s.ready ∙ p.awaits.stays_ready r;
       early = λ lacks. p.awaits.early (ap (λ v. list_all (λ ready. ready) v.items) (sym s.ready) ∙ lacks);
@@ -130,6 +140,7 @@ module _ {Li L D : Type 0} (given : Li → ℕ) (left : Li → Option (List L)) 
     listeners = ap (λ k. length k.ended) s.core ∙ p.listeners;
     limit = s.retry_limit ∙ p.limit;
     lacks = λ is. s.lacks_room ∙ p.lacks is;
+    stops = λ is. ap (λ k. is_some k.stopping) s.core ∙ p.stops is;
   }
 
 -- A turn: it begins with no event, and ends with the stops, which are no events.
@@ -163,63 +174,84 @@ told_by a long taken w = elim (taken w) [
   | inr short ↦ absurd (long short)
 ]
 
-module _ {Li L : Type 0} (given waits skips : Li → ℕ) (l m : List Li) (a : Acceptor L) (now : ℕ) where
-  abbrev pub StopsWait : Type 0
-  StopsWait = IsOver a → waiting_of a ≡ None → sum (core_of a).out ≡ 0 → (w : ℕ) × LacksStop a w
+-- what the end of a turn adds to why it goes on
+pub record TurnWaits {L Co : Type 0} (idles : Co → ℕ) (source source_then : Co) (a : Acceptor L) (now : ℕ) : Type 0 where
+  pub commands : Rose (idles source) (idles source_then) ⊎ (256 ≤ count_by is_command (events_of a))
+  pub stops : (core_of a).stopping ≡ None → IsOver a → waiting_of a ≡ None → sum (core_of a).out ≡ 0 → (w : ℕ) × LacksStop a w
+  pub stop : is_some (core_of a).stopping ≡ true → AwaitsStop a now
+
+module _ {Li L Co : Type 0} (given waits skips : Li → ℕ) (idles : Co → ℕ) (l m : List Li) (source source_then : Co) (a : Acceptor L) (now : ℕ) where
+  -- it asked the listeners, where it may
+  abbrev pub AskedThem : Type 0
+  AskedThem = all_ready a ≡ true → lacks_room_of a ≡ false → IsAccepting (core_of a) → count_by is_command (events_of a) < 256 → (t : ℕ) → t < listeners_of a → IsAskedOut given waits skips l m a now t
 
   none_waits : waiting_of a ≡ None → is_some (waiting_of a) ≡ true → ⊥
   none_waits none waits = absurd (let e : false ≡ true = sym (ap (λ o. is_some o) none) ∙ waits in cc)
 
-  settled_goes_on : (IsShort a → ⊥) → MayAsk a → (all_ready a ≡ true → lacks_room_of a ≡ false → (t : ℕ) → t < listeners_of a → IsAskedOut given waits skips l m a now t) → StopsWait
-      → AcceptGoesOn given waits skips l m a now
-  settled_goes_on long may asked stops = record {
+  settled_goes_on : (IsShort a → ⊥) → MayAsk a → AskedThem → TurnWaits idles source source_then a now → AcceptGoesOn given waits skips idles l m source source_then a now
+  settled_goes_on long may asked w = record {
+    commands = w.commands;
     notes = told_by a long may.told;
     placing = λ waits. absurd (none_waits may.none waits);
     asked = λ _. asked;
-    stops = stops;
+    stops = w.stops;
+    stop = w.stop;
   }
 
-  halted_goes_on : (IsShort a → ⊥) → HasHalted a → StopsWait → AcceptGoesOn given waits skips l m a now
-  halted_goes_on long halted stops = elim halted.cause [
+  halted_goes_on : (IsShort a → ⊥) → HasHalted a → TurnWaits idles source source_then a now → AcceptGoesOn given waits skips idles l m source source_then a now
+  halted_goes_on long halted w = elim halted.cause [
     | inl short ↦ absurd (long short)
     | inr (inl waits) ↦ record {
+      commands = w.commands;
       notes = told_by a long halted.told;
       placing = λ _. waits.1;
       asked = λ none. absurd (none_waits none waits.0);
-      stops = stops;
+      stops = w.stops;
+      stop = w.stop;
     }
     | inr (inr lacks) ↦ record {
+      commands = w.commands;
       notes = told_by a long halted.told;
       placing = λ some. absurd (none_waits lacks.0 some);
       asked = λ _ _ has. absurd (let e : false ≡ true = sym has ∙ lacks.1 in cc);
-      stops = stops;
+      stops = w.stops;
+      stop = w.stop;
     }
   ]
 
-  pub turn_goes_on : (s : Step) → (s ≡ On → ⊥) → (s ≡ Settled → MayAsk a × (all_ready a ≡ true → lacks_room_of a ≡ false → (t : ℕ) → t < listeners_of a → IsAskedOut given waits skips l m a now t))
-      → (s ≡ Halted → HasHalted a) → ((w : ℕ) → s ≡ WorkerEnded w → ⊥) → StopsWait → IsShort a ⊎ AcceptGoesOn given waits skips l m a now
-  turn_goes_on s on settled halted ended stops = elim (short_or_not a) [
+  pub turn_goes_on : (s : Step) → (s ≡ On → ⊥) → (s ≡ Settled → MayAsk a × AskedThem)
+      → (s ≡ Halted → HasHalted a) → ((w : ℕ) → s ≡ WorkerEnded w → ⊥) → TurnWaits idles source source_then a now → IsShort a ⊎ AcceptGoesOn given waits skips idles l m source source_then a now
+  turn_goes_on s on settled halted ended w = elim (short_or_not a) [
     | inl short ↦ inl short
     | inr long ↦ inr (by_step s refl long)
   ]
     where
-      by_step : (r : Step) → s ≡ r → (IsShort a → ⊥) → AcceptGoesOn given waits skips l m a now
+      by_step : (r : Step) → s ≡ r → (IsShort a → ⊥) → AcceptGoesOn given waits skips idles l m source source_then a now
       by_step On is long = absurd (on is)
-      by_step Settled is long = settled_goes_on long (settled is).0 (settled is).1 stops
-      by_step Halted is long = halted_goes_on long (halted is) stops
-      by_step (WorkerEnded w) is long = absurd (ended w is)
+      by_step Settled is long = settled_goes_on long (settled is).0 (settled is).1 w
+      by_step Halted is long = halted_goes_on long (halted is) w
+      by_step (WorkerEnded v) is long = absurd (ended v is)
+
+-- a turn that took fewer than 256 commands found none any more
+pub few_idle : (idle : Bool) (n : ℕ) → (idle ≡ false → 256 ≤ n) → n < 256 → idle ≡ true
+few_idle true n many few = refl
+few_idle false n many few = absurd (omega (arith, many refl, few))
+
+pub idle_or_many : (R : Type 0) (idle : Bool) (n : ℕ) → (idle ≡ true → R) → (idle ≡ false → 256 ≤ n) → R ⊎ (256 ≤ n)
+idle_or_many R true n left many = inl (left refl)
+idle_or_many R false n left many = inr (many refl)
 
 -- in a turn that began with no event a listener failed at most once
-pub once_each : (xs ys zs : List Event) → xs ≡ [] → ((t : ℕ) → count_by (is_failed t) ys ≡ count_by (is_failed t) xs) → ((t : ℕ) → count_by (is_failed t) zs ≤ count_by (is_failed t) ys + 1)
+pub once_each : (xs ys zs : List Event) → ((t : ℕ) → count_by (is_failed t) xs ≡ 0) → ((t : ℕ) → count_by (is_failed t) ys ≡ count_by (is_failed t) xs) → ((t : ℕ) → count_by (is_failed t) zs ≤ count_by (is_failed t) ys + 1)
     → is_some (refused (Some []) zs) ≡ true → OnceEach zs
 once_each xs ys zs none same more refusals = record {
-  failures = λ t. omega (arith, same t, more t, ap (λ es. count_by (is_failed t) es) none);
+  failures = λ t. omega (arith, same t, more t, none t);
   refusals = refusals;
 }
 
 -- none was refused in a turn that just began
-pub unrefused_first : (xs ys : List Event) → xs ≡ [] → refused (Some []) ys ≡ refused (Some []) xs → refused (Some []) ys ≡ Some []
-unrefused_first xs ys none same = same ∙ ap (refused (Some [])) none
+pub unrefused_first : (xs ys : List Event) → refused (Some []) xs ≡ Some [] → refused (Some []) ys ≡ refused (Some []) xs → refused (Some []) ys ≡ Some []
+unrefused_first xs ys none same = same ∙ none
 
 pub is_some_of : (o : Option (List ℕ)) → o ≡ Some [] → is_some o ≡ true
 is_some_of o is = ap (λ p. is_some p) is
@@ -281,8 +313,8 @@ module _ {L : Type 0} (a b : Acceptor L) (s : SeenSame a b) where
   short_same short = omega (arith, short, ap (λ k. length k.out) s.core, ap (λ v. length v.items) s.events)
 
   told_same : (w : ℕ) → HasTold a w → HasTold b w
-  told_same w told = subst (λ v. IfSome (slice_get v.items w) (λ c. (known_items c ≡ []) ⊎ ((slice_index b.core.out w ≡ 0) × IsBackFirst (known_items c)))) (sym s.notes)
-      (subst (λ k. IfSome (slice_get a.notes.items w) (λ c. (known_items c ≡ []) ⊎ ((slice_index k.out w ≡ 0) × IsBackFirst (known_items c)))) (sym s.core) told)
+  told_same w told = subst (λ v. IfSome (slice_get v.items w) (λ c. AreLeft (slice_index b.core.out w) b.core.stopping (known_items c))) (sym s.notes)
+      (subst (λ k. IfSome (slice_get a.notes.items w) (λ c. AreLeft (slice_index k.out w) k.stopping (known_items c))) (sym s.core) told)
 
   taken_same : HasTaken a → HasTaken b
   taken_same taken w = elim (taken w) [
@@ -310,15 +342,18 @@ module _ {L : Type 0} (a b : Acceptor L) (s : SeenSame a b) where
     told = taken_same halted.told;
   }
 
-  pub asked_same : {Li : Type 0} (given waits skips : Li → ℕ) (l m : List Li) (now : ℕ) → (all_ready a ≡ true → lacks_room_of a ≡ false → (t : ℕ) → t < listeners_of a → IsAskedOut given waits skips l m a now t)
-      → all_ready b ≡ true → lacks_room_of b ≡ false → (t : ℕ) → t < listeners_of b → IsAskedOut given waits skips l m b now t
-  asked_same given waits skips l m now asked ready room t below = asked_out_same given waits skips l m a b now t s.core (ap (λ v. v.items) s.failed)
-      (asked (ap (λ v. list_all (λ r. r) v.items) (sym s.ready) ∙ ready) (sym s.lacks_room ∙ room) t (subst (λ k. t < length k.ended) s.core below))
+  pub asked_same : {Li : Type 0} (given waits skips : Li → ℕ) (l m : List Li) (now : ℕ) (idle : Bool)
+      → (all_ready a ≡ true → lacks_room_of a ≡ false → IsAccepting (core_of a) → idle ≡ true → (t : ℕ) → t < listeners_of a → IsAskedOut given waits skips l m a now t)
+      → (count_by is_command (events_of b) < 256 → idle ≡ true)
+      → all_ready b ≡ true → lacks_room_of b ≡ false → IsAccepting (core_of b) → count_by is_command (events_of b) < 256 → (t : ℕ) → t < listeners_of b → IsAskedOut given waits skips l m b now t
+  asked_same given waits skips l m now idle asked few_commands ready room accepts few t below = asked_out_same given waits skips l m a b now t s.core (ap (λ v. v.items) s.failed)
+      (asked (ap (λ v. list_all (λ r. r) v.items) (sym s.ready) ∙ ready) (sym s.lacks_room ∙ room) (subst (λ (k : Core). IsAccepting k) s.core accepts) (few_commands few) t (subst (λ k. t < length k.ended) s.core below))
 
 -- the answer of a turn names the worker that its last step named
 pub ended_same : {L : Type 0} (a b : Acceptor L) (v w : ℕ) → TurnEnded v ≡ TurnEnded w → (v < workers_of b) × EndsByFault a b v → (w < workers_of b) × EndsByFault a b w
 ended_same a b v w is e = let same : v ≡ w = cc in subst (λ u. (u < workers_of b) × EndsByFault a b u) same e
 
 -- why a turn goes on, at its answer of the clock
-pub goes_on_at : {Li L : Type 0} (given waits skips : Li → ℕ) (l m : List Li) (a : Acceptor L) (now now2 : ℕ) → now2 ≡ now → IsShort a ⊎ AcceptGoesOn given waits skips l m a now → IsShort a ⊎ AcceptGoesOn given waits skips l m a now2
-goes_on_at given waits skips l m a now now2 time goes = subst (λ n. IsShort a ⊎ AcceptGoesOn given waits skips l m a n) (sym time) goes
+pub goes_on_at : {Li L Co : Type 0} (given waits skips : Li → ℕ) (idles : Co → ℕ) (l m : List Li) (source source_then : Co) (a : Acceptor L) (now now2 : ℕ) → now2 ≡ now
+    → IsShort a ⊎ AcceptGoesOn given waits skips idles l m source source_then a now → IsShort a ⊎ AcceptGoesOn given waits skips idles l m source source_then a now2
+goes_on_at given waits skips idles l m source source_then a now now2 time goes = subst (λ n. IsShort a ⊎ AcceptGoesOn given waits skips idles l m source source_then a n) (sym time) goes

@@ -7,24 +7,26 @@ use Rattle.rtrb.specs.declared.consumer.Consumer.{Consumer}
 use Rattle.server_core.specs.Core.{Core, in_order}
 use Rattle.server_core.specs.Runs.{AllAllowed, after_all}
 use Rattle.server_core.specs.declared.event.Event.{Event}
-use Rattle.server_core.specs.declared.event.Event.TheVariants.{Back, Got, Sent, RingFull, ListenerFailed}
+use Rattle.server_core.specs.declared.event.Event.TheVariants.{Command, Back, Got, Sent, RingFull, ListenerFailed}
 use Rattle.service_core.specs.Counts.{Rose}
 use Rattle.service_core.specs.Link.{Identity}
 use Rattle.server_run.specs.Delivery.{HasEnded, given_at, rest_at, rise}
 use Rattle.server_run.specs.Done.{Adds}
+use Rattle.server_run.specs.Outcome.{is_stopped}
 use Rattle.server_run.specs.Listener.{Mark, fails, gives, in_a_row}
 use Rattle.server_run.specs.Serving.{Untouched}
 use Rattle.server_run.specs.declared.entry.Entry.{Entry}
 use Rattle.server_run.specs.declared.report.End.{End}
-use Rattle.server_run.specs.declared.report.End.TheVariants.{Drained, Memory}
+use Rattle.server_run.specs.declared.report.End.TheVariants.{Drained, Stopped, Memory}
 use Rattle.server_jobs.specs.declared.note.Note.TheVariants.{Ready as ReadyNote, Faulted as FaultedNote}
 use Rattle.server_jobs.specs.declared.note.Note.{Note}
 use Rattle.server_acceptor.specs.Carrying.{Carries}
 use Rattle.server_acceptor.specs.Logging.{AllOfUse}
-use Rattle.server_acceptor.specs.Notes.{IsBackFirst, count_back}
-use Rattle.server_acceptor.specs.Placing.{HasNoPlace}
+use Rattle.server_acceptor.specs.Notes.{AreLeft, count_back}
 use Rattle.server_acceptor.specs.Rings.{KeepsRings, count_put}
-use Rattle.server_acceptor.specs.Acceptors.{all_ready, core_of, events_of, failed_of, first_of, lacks_room_of, listeners_of, notes_of, parcels_of, ready_of, retry_limit_of, stopped_of, waiting_of, workers_of}
+use Rattle.server_acceptor.specs.Sending.{IsForced}
+use Rattle.server_acceptor.specs.Stopping.{AwaitsStop, LacksStop}
+use Rattle.server_acceptor.specs.Acceptors.{all_ready, core_of, events_of, failed_of, first_of, forced_of, lacks_room_of, listeners_of, notes_of, parcels_of, ready_of, retry_limit_of, shutdown_timeout_of, stop_of, stopped_of, waiting_of, workers_of}
 use Rattle.server_acceptor.specs.declared.acceptor.Acceptor.{Acceptor}
 
 -- the kinds of events
@@ -43,6 +45,10 @@ is_sent w _ = false
 abbrev pub is_back : ℕ → Event → Bool
 is_back w (Back v) = nat_eq v w
 is_back w _ = false
+
+abbrev pub is_command : Event → Bool
+is_command (Command command) = true
+is_command _ = false
 
 -- what an event tells that came of this listener
 abbrev pub mark_of : ℕ → Event → List Mark
@@ -75,6 +81,8 @@ pub record Passes {Li L D : Type 0} (given : Li → ℕ) (left : Li → Option (
     (before after : List Li) (a b : Acceptor L) (old new : D) : Type 0 where
   pub more : List (Entry L)
   pub adds : Adds taken count served old new more
+  -- one that was stopped came only after a stop
+  pub founded : All (λ e. is_stopped e.outcome ≡ true → is_some (core_of b).stopping ≡ true) more
   pub carries : (first : List Li) (entries : List (Entry L)) → Carries given left identity first before a entries → Carries given left identity first after b (entries ++ more)
 
 -- The core tells of a listener that it ended where it did, or where it failed as often as it may.
@@ -126,6 +134,8 @@ pub record Does {Li L D : Type 0} (given : Li → ℕ) (left : Li → Option (Li
   pub listeners : listeners_of b ≡ listeners_of a
   pub limit : retry_limit_of b ≡ retry_limit_of a
   pub lacks : lacks_room_of a ≡ true → lacks_room_of b ≡ true
+  -- a stop is for ever
+  pub stops : is_some (core_of a).stopping ≡ true → is_some (core_of b).stopping ≡ true
 
 -- The same by more events than before.
 pub record Proceeds {Li L D : Type 0} (given : Li → ℕ) (left : Li → Option (List L)) (rest : Li → Option (List Mark)) (identity : L → Identity) (ended : Li → Bool) (faults : Li → ℕ)
@@ -159,9 +169,9 @@ pub record OnceEach (events : List Event) : Type 0 where
 abbrev pub IsShort : {L : Type 0} → Acceptor L → Type 0
 IsShort a = 8 * workers_of a + 600 < length (events_of a) + (2 * workers_of a + 4)
 
--- no note of w is known, unless the first one hands a connection back and w has none
+-- No note of w is known, unless the first one hands a connection back and w has none, or hands back one that was stopped and no stop came.
 abbrev pub HasTold : {L : Type 0} → Acceptor L → ℕ → Type 0
-HasTold a w = IfSome (slice_get (notes_of a) w) (λ c. (known_items c ≡ []) ⊎ ((slice_index (core_of a).out w ≡ 0) × IsBackFirst (known_items c)))
+HasTold a w = IfSome (slice_get (notes_of a) w) (λ c. AreLeft (slice_index (core_of a).out w) (core_of a).stopping (known_items c))
 
 -- no note is left that may be taken
 abbrev pub HasTaken : {L : Type 0} → Acceptor L → Type 0
@@ -211,8 +221,22 @@ HasSettled waits before after a now t = (slice_index_or (core_of a).ended t true
 abbrev pub IsOutside : ℕ → ℕ → ℕ → Type 0
 IsOutside from to t = (t < from) ⊎ (to ≤ t)
 
+-- neither a pause nor a stop keeps it from accepting
+abbrev pub IsAccepting : Core → Type 0
+IsAccepting s = (s.paused ≡ false) × (s.stopping ≡ None)
+
+-- What the taking of notes, the placing and the asking leave as it was: no command came, and no stop went out.
+pub record LeavesStops {L : Type 0} (a b : Acceptor L) : Type 0 where
+  pub commands : count_by is_command (events_of b) ≡ count_by is_command (events_of a)
+  pub paused : (core_of b).paused ≡ (core_of a).paused
+  pub stopping : (core_of b).stopping ≡ (core_of a).stopping
+  pub stop : stop_of b ≡ stop_of a
+  pub timeout : shutdown_timeout_of b ≡ shutdown_timeout_of a
+  pub forced : (w : ℕ) → IsForced (parcels_of b) w → IsForced (parcels_of a) w
+
 -- Of the listeners, only those from one token on to another were asked, and each of them failed at most once.
 pub record AsksFrom {Li L : Type 0} (before after : List Li) (a b : Acceptor L) (from to : ℕ) : Type 0 where
+  pub leaves : LeavesStops a b
   pub first : first_of b ≡ first_of a
   pub listeners : (t : ℕ) → IsOutside from to t → slice_get after t ≡ slice_get before t
   pub failed : (t : ℕ) → IsOutside from to t → slice_index_or (failed_of b) t None ≡ slice_index_or (failed_of a) t None
@@ -235,25 +259,28 @@ pub record AsksInTurn {Li L : Type 0} (given waits skips : Li → ℕ) (before a
 abbrev pub IsOver : {L : Type 0} → Acceptor L → Type 0
 IsOver a = (lacks_room_of a ≡ true) ⊎ ((t : ℕ) → t < listeners_of a → slice_index_or (core_of a).ended t false ≡ true)
 
--- a worker has got no stop yet, and no place of its ring is known free
-abbrev pub LacksStop : {L : Type 0} → Acceptor L → ℕ → Type 0
-LacksStop a w = (w < workers_of a) × (slice_index_or (stopped_of a) w true ≡ false) × HasNoPlace (parcels_of a) w
-
 -- What the acceptor waits for when it goes on.
-pub record AcceptGoesOn {Li L : Type 0} (given waits skips : Li → ℕ) (before after : List Li) (a : Acceptor L) (now : ℕ) : Type 0 where
+pub record AcceptGoesOn {Li L Co : Type 0} (given waits skips : Li → ℕ) (idles : Co → ℕ) (before after : List Li) (source source_then : Co) (a : Acceptor L) (now : ℕ) : Type 0 where
+  -- the source of commands has no more for now, or gave as many as are taken in a turn
+  pub commands : Rose (idles source) (idles source_then) ⊎ (256 ≤ count_by is_command (events_of a))
   pub notes : (w : ℕ) → HasTold a w
   pub placing : is_some (waiting_of a) ≡ true → IsRefused a
   -- where it may accept, it has asked each listener
-  pub asked : waiting_of a ≡ None → all_ready a ≡ true → lacks_room_of a ≡ false → (t : ℕ) → t < listeners_of a → IsAskedOut given waits skips before after a now t
+  pub asked : waiting_of a ≡ None → all_ready a ≡ true → lacks_room_of a ≡ false → IsAccepting (core_of a) → count_by is_command (events_of a) < 256
+      → (t : ℕ) → t < listeners_of a → IsAskedOut given waits skips before after a now t
   -- where nothing more comes and nothing is out, it waits to send a stop
-  pub stops : IsOver a → waiting_of a ≡ None → sum (core_of a).out ≡ 0 → (w : ℕ) × LacksStop a w
+  pub stops : (core_of a).stopping ≡ None → IsOver a → waiting_of a ≡ None → sum (core_of a).out ≡ 0 → (w : ℕ) × LacksStop a w
+  -- after a stop it waits to send a stop or a force message, or for what is out
+  pub stop : is_some (core_of a).stopping ≡ true → AwaitsStop a now
 
 -- why it is finished
 abbrev pub Finishes : {L : Type 0} → Acceptor L → End → Type 0
 Finishes a Drained = ((t : ℕ) → t < listeners_of a → slice_index_or (core_of a).ended t false ≡ true)
-    × (waiting_of a ≡ None) × (sum (core_of a).out ≡ 0) × All (λ stopped. stopped ≡ true) (stopped_of a)
+    × (waiting_of a ≡ None) × (sum (core_of a).out ≡ 0) × All (λ stopped. stopped ≡ true) (stopped_of a) × ((core_of a).stopping ≡ None)
+Finishes a (Stopped graceful) = ((core_of a).stopping ≡ Some graceful)
+    × (waiting_of a ≡ None) × All (λ stopped. stopped ≡ true) (stopped_of a) × ((sum (core_of a).out ≡ 0) ⊎ All (λ forced. forced ≡ true) (forced_of a))
 Finishes a Memory = (lacks_room_of a ≡ true)
-    × (waiting_of a ≡ None) × (sum (core_of a).out ≡ 0) × All (λ stopped. stopped ≡ true) (stopped_of a)
+    × (waiting_of a ≡ None) × (sum (core_of a).out ≡ 0) × All (λ stopped. stopped ≡ true) (stopped_of a) × ((core_of a).stopping ≡ None)
 
 -- the note that w ends by a fault was taken in between
 pub record EndsByFault {L : Type 0} (a b : Acceptor L) (w : ℕ) : Type 0 where

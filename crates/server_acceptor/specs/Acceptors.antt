@@ -11,6 +11,7 @@ use Rattle.server_jobs.specs.declared.note.Note.{Note}
 use Rattle.server_jobs.specs.declared.parcel.Parcel.{Parcel}
 use Rattle.server_jobs.specs.declared.waiting.Waiting.{Waiting}
 use Rattle.server_acceptor.specs.declared.acceptor.Acceptor.{Acceptor}
+use Rattle.server_acceptor.specs.declared.stop.Stop.{Stop}
 
 module _ {L : Type 0} where
   -- what it knows of the workers and the listeners
@@ -34,6 +35,14 @@ module _ {L : Type 0} where
 
   abbrev pub stopped_of : Acceptor L → List Bool
   stopped_of a = a.stopped.items
+
+  -- which workers got a stop that is not graceful
+  abbrev pub forced_of : Acceptor L → List Bool
+  forced_of a = a.forced.items
+
+  -- the first stop that was taken up
+  abbrev pub stop_of : Acceptor L → Option Stop
+  stop_of a = a.stop
 
   -- the connection that no worker could take yet
   abbrev pub waiting_of : Acceptor L → Option (Waiting L)

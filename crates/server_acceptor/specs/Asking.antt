@@ -45,4 +45,7 @@ pub record MakesRoom {L : Type 0} (a b : Acceptor L) : Type 0 where
   pub failed : b.failed ≡ a.failed
   pub first : b.first ≡ a.first
   pub retry_limit : b.retry_limit ≡ a.retry_limit
+  pub forced : b.forced ≡ a.forced
+  pub stop : b.stop ≡ a.stop
+  pub shutdown_timeout : b.shutdown_timeout ≡ a.shutdown_timeout
   pub lacks : a.lacks_room ≡ true → b.lacks_room ≡ true

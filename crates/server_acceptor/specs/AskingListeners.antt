@@ -43,6 +43,9 @@ pub record AsksOnly {L : Type 0} (a b : Acceptor L) : Type 0 where
   pub notes : b.notes ≡ a.notes
   pub ready : b.ready ≡ a.ready
   pub stopped : b.stopped ≡ a.stopped
+  pub forced : b.forced ≡ a.forced
+  pub stop : b.stop ≡ a.stop
+  pub shutdown_timeout : b.shutdown_timeout ≡ a.shutdown_timeout
   pub first : b.first ≡ a.first
   pub limit : b.limit ≡ a.limit
   pub retry_limit : b.retry_limit ≡ a.retry_limit
@@ -51,6 +54,7 @@ pub record AsksOnly {L : Type 0} (a b : Acceptor L) : Type 0 where
   pub order : b.core.order ≡ a.core.order
   pub free : b.core.free ≡ a.core.free
   pub paused : b.core.paused ≡ a.core.paused
+  pub stopping : b.core.stopping ≡ a.core.stopping
 
 -- a connection of the listener t waits, with the next numbers
 pub record TakesUp {L : Type 0} (a b : Acceptor L) (t : ℕ) (link : L) : Type 0 where

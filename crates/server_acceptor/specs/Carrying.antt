@@ -1,5 +1,5 @@
--- Where the connections are that the listeners gave: on the way to a worker, waiting, or come back.
-use Rattle.std.specs.Prelude.{◌≡◌, ◌≤◌, ◌<◌, ⊤, ℕ, ◌+◌, ◌==◌, ◌&&◌, Bool, cond, List, length, drop, sum_by, All, Any, Contains, Option, Some, IfSome, slice_get, slice_index, slice_index_or}
+-- Where the connections are that the listeners gave: on the way to a worker, waiting, let go at a stop, or come back.
+use Rattle.std.specs.Prelude.{◌≡◌, ◌⊎◌, ◌≤◌, ◌<◌, ⊤, ℕ, ◌+◌, ◌==◌, ◌&&◌, Bool, false, cond, List, length, drop, sum_by, All, Any, Contains, Option, Some, IfSome, slice_get, slice_index, slice_index_or}
 use Rattle.std.specs.Option.{option_map, option_map_or}
 use Rattle.rtrb.specs.Ring.{received, sent}
 use Rattle.rtrb.specs.declared.consumer.Consumer.{Consumer}
@@ -7,6 +7,7 @@ use Rattle.rtrb.specs.declared.producer.Producer.{Producer}
 use Rattle.service_core.specs.Link.{Identity}
 use Rattle.server_run.specs.Delivery.{given_at, left_at, once_below, rise}
 use Rattle.server_run.specs.declared.entry.Entry.{Entry}
+use Rattle.server_run.specs.declared.outcome.Outcome.TheVariants.{Stopped}
 use Rattle.server_jobs.specs.Cards.{Card, of_entry, of_note, of_parcel, of_waiting}
 use Rattle.server_acceptor.specs.Notes.{count_back}
 use Rattle.server_acceptor.specs.Rings.{count_put}
@@ -40,6 +41,10 @@ module _ {L : Type 0} (identity : L → Identity) (h : Card → ℕ) where
   abbrev pub in_waiting : Option (Waiting L) → ℕ
   in_waiting waiting = option_map_or (of_waiting identity h) waiting 0
 
+  -- of what was let go
+  abbrev pub let_gone : List (Entry L) → ℕ
+  let_gone gone = sum_by (of_entry identity h) gone
+
 -- the link is the one that stood at this place of its listener
 abbrev pub IsInPlace : {Li L : Type 0} → (Li → Option (List L)) → List Li → ℕ → ℕ → L → Type 0
 IsInPlace left old token place link = IfSome (left_at left old token) (λ links. slice_get links place ≡ Some link)
@@ -48,14 +53,21 @@ abbrev pub ParcelIsInPlace : {Li L : Type 0} → (Li → Option (List L)) → Li
 ParcelIsInPlace left old (Conn s t p link) = IsInPlace left old t p link
 ParcelIsInPlace left old (Stop graceful) = ⊤
 
--- From the listeners as they were to the listeners as they are: what they gave was put on rings, or waits, each once; and the entries are what came back.
+-- the acceptor let it go at a stop, with its link as it was accepted
+abbrev pub IsLetGo : {Li L : Type 0} → (Li → Option (List L)) → List Li → Entry L → Type 0
+IsLetGo left old e = (e.outcome ≡ Stopped false) × IsInPlace left old e.token e.place e.link
+
+-- From the listeners as they were to the listeners as they are: what they gave was put on rings, waits, or was let go, each once; and
+-- the entries are what came back, and what was let go.
 pub record Carries {Li L : Type 0} (given : Li → ℕ) (left : Li → Option (List L)) (identity : L → Identity) (old new : List Li)
     (a : Acceptor L) (entries : List (Entry L)) : Type 0 where
+  pub gone : List (Entry L)
+  pub let_go : All (IsLetGo left old) gone
   -- the serials are the numbers below their count, each once
-  pub count : put identity (λ c. 1) a.parcels.items + in_waiting identity (λ c. 1) a.waiting ≡ a.serial
-  pub serials : (k : ℕ) → put identity (each (has_serial k)) a.parcels.items + in_waiting identity (each (has_serial k)) a.waiting ≡ once_below a.serial k
+  pub count : (put identity (λ c. 1) a.parcels.items + in_waiting identity (λ c. 1) a.waiting) + let_gone identity (λ c. 1) gone ≡ a.serial
+  pub serials : (k : ℕ) → (put identity (each (has_serial k)) a.parcels.items + in_waiting identity (each (has_serial k)) a.waiting) + let_gone identity (each (has_serial k)) gone ≡ once_below a.serial k
   -- the places of a listener are the numbers below its rise, each once
-  pub places : (token k : ℕ) → put identity (each (has_place token k)) a.parcels.items + in_waiting identity (each (has_place token k)) a.waiting ≡ once_below (rise given old new token) k
+  pub places : (token k : ℕ) → (put identity (each (has_place token k)) a.parcels.items + in_waiting identity (each (has_place token k)) a.waiting) + let_gone identity (each (has_place token k)) gone ≡ once_below (rise given old new token) k
   -- each link is the one that stood there
   pub on_rings : All (λ p. All (ParcelIsInPlace left old) (sent p)) a.parcels.items
   pub waits : IfSome a.waiting (λ w. IsInPlace left old w.token w.place w.link)
@@ -63,8 +75,8 @@ pub record Carries {Li L : Type 0} (given : Li → ℕ) (left : Li → Option (L
   pub remains : (token : ℕ) → left_at left new token ≡ option_map (drop (rise given old new token)) (left_at left old token)
   pub rises : (token : ℕ) → given_at given old token ≤ given_at given new token
   pub next_places : (token : ℕ) → token < length a.places.items → slice_index_or a.places.items token 0 ≡ rise given old new token
-  -- what came back was handed on
-  pub back : (h : Card → ℕ) → came_back identity h a.notes.items ≡ sum_by (of_entry identity h) entries
-  pub noted : All (λ e. Any (λ c. Contains (received c) (Back e)) a.notes.items) entries
+  -- what came back was handed on, and what was let go
+  pub back : (h : Card → ℕ) → came_back identity h a.notes.items + let_gone identity h gone ≡ sum_by (of_entry identity h) entries
+  pub noted : All (λ e. Any (λ c. Contains (received c) (Back e)) a.notes.items ⊎ Contains gone e) entries
   -- the core counts, for each worker, what is out
   pub out : (w : ℕ) → count_put identity a.parcels.items w ≡ count_back identity a.notes.items w + slice_index a.core.out w

@@ -1,5 +1,5 @@
 -- That the acceptor takes back what the workers hand it.
-use Rattle.std.specs.Prelude.{◌≡◌, ◌⊎◌, ◌<◌, ⊤, ℕ, ◌+◌, ◌∷◌, [], List, true, cond, nat_eq, length, map, sum_by, count_by, All, Any, Contains, Option, slice_get, slice_index}
+use Rattle.std.specs.Prelude.{◌≡◌, ◌⊎◌, ◌<◌, ⊤, ℕ, ◌+◌, ◌∷◌, [], Bool, List, true, is_some, cond, nat_eq, length, map, sum_by, count_by, All, Any, Contains, Option, slice_get, slice_index}
 use Rattle.std.specs.Option.{option_map_or}
 use Rattle.rtrb.specs.Ring.{known_items, received}
 use Rattle.rtrb.specs.declared.consumer.Consumer.{Consumer}
@@ -7,6 +7,7 @@ use Rattle.service_core.specs.Link.{Identity}
 use Rattle.server_core.specs.declared.event.Event.{Event}
 use Rattle.server_core.specs.declared.event.Event.TheVariants.{Notice, Back as BackOf}
 use Rattle.server_run.specs.Done.{Adds}
+use Rattle.server_run.specs.Outcome.{is_stopped}
 use Rattle.server_run.specs.declared.entry.Entry.{Entry}
 use Rattle.server_jobs.specs.Cards.{Card, of_entry}
 use Rattle.server_acceptor.specs.Accepting.{IsNoted, Receives, is_back}
@@ -40,15 +41,21 @@ pub record Hands {L D : Type 0} (identity : L → Identity) (taken : D → Optio
   pub rings : map ring_out b.notes.items ≡ map ring_out a.notes.items
   pub back : (h : Card → ℕ) → came_back identity h b.notes.items ≡ came_back identity h a.notes.items + sum_by (of_entry identity h) entries
   pub noted : All (λ e. Any (λ c. Contains (received c) (Back e)) b.notes.items) entries
+  -- one that was stopped came only after a stop
+  pub founded : All (λ e. is_stopped e.outcome ≡ true → is_some b.core.stopping ≡ true) entries
   pub kept : (e : Entry L) → Any (λ c. Contains (received c) (Back e)) a.notes.items → Any (λ c. Contains (received c) (Back e)) b.notes.items
   pub balance : (w : ℕ) → count_back identity b.notes.items w + slice_index b.core.out w ≡ count_back identity a.notes.items w + slice_index a.core.out w
   pub ended : b.core.ended ≡ a.core.ended
   pub core_waiting : b.core.waiting ≡ a.core.waiting
   pub order : b.core.order ≡ a.core.order
   pub paused : b.core.paused ≡ a.core.paused
+  pub stopping : b.core.stopping ≡ a.core.stopping
   pub parcels : b.parcels ≡ a.parcels
   pub waiting : b.waiting ≡ a.waiting
   pub stopped : b.stopped ≡ a.stopped
+  pub forced : b.forced ≡ a.forced
+  pub stop : b.stop ≡ a.stop
+  pub shutdown_timeout : b.shutdown_timeout ≡ a.shutdown_timeout
   pub serial : b.serial ≡ a.serial
   pub places : b.places ≡ a.places
   pub failed : b.failed ≡ a.failed
@@ -68,12 +75,12 @@ pub record Hands {L D : Type 0} (identity : L → Identity) (taken : D → Optio
   pub early : a.serial ≡ 0 → entries ≡ []
   pub receives : (w : ℕ) → Receives a b w
 
--- the next note of w may be taken: it is no connection, unless one is out
-abbrev pub MayTake : {L : Type 0} → ℕ → List (Note L) → Type 0
-MayTake out [] = ⊥
-MayTake out (Ready ∷ notes) = ⊤
-MayTake out (Back e ∷ notes) = 0 < out
-MayTake out (Faulted ∷ notes) = ⊤
+-- The next note of w may be taken: it is no connection, unless one is out, and none that was stopped, unless a stop came.
+abbrev pub MayTake : {L : Type 0} → ℕ → Option Bool → List (Note L) → Type 0
+MayTake out stopping [] = ⊥
+MayTake out stopping (Ready ∷ notes) = ⊤
+MayTake out stopping (Back e ∷ notes) = (0 < out) × (is_stopped e.outcome ≡ true → is_some stopping ≡ true)
+MayTake out stopping (Faulted ∷ notes) = ⊤
 
 -- how many notes are known in the ring of a worker
 abbrev pub known_at : {L A P : Type 0} → List (Consumer (Note L) A P) → ℕ → ℕ

@@ -4,11 +4,13 @@ pub mod Asking
 pub mod AskingListeners
 pub mod Beginning
 pub mod Carrying
+pub mod Commanding
 pub mod Handing
 pub mod Listening
 pub mod Logging
 pub mod Notes
 pub mod Placing
 pub mod Rings
+pub mod Sending
 pub mod States
 pub mod Stopping

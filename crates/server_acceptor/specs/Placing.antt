@@ -43,6 +43,8 @@ pub record Stays {L : Type 0} (a b : Acceptor L) : Type 0 where
   pub notes : b.notes ≡ a.notes
   pub ready : b.ready ≡ a.ready
   pub stopped : b.stopped ≡ a.stopped
+  pub forced : b.forced ≡ a.forced
+  pub stop : b.stop ≡ a.stop
   pub serial : b.serial ≡ a.serial
   pub places : b.places ≡ a.places
   pub failed : b.failed ≡ a.failed

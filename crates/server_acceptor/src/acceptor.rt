@@ -2,8 +2,12 @@ ghost use Rattle.std.specs.Prelude.{◌≡◌, ◌+◌, ◌*◌, ◌^◌, ◌≤
 ghost use Rattle.std.specs.List.{list_all};
 ghost use Rattle.std.specs.Option.{option_map};
 ghost use Rattle.std.specs.FinSet as set;
-ghost use Rattle.server_core.specs.Core.{in_order};
+ghost use Rattle.server_core.specs.Core.{IsKept, in_order};
+ghost use Rattle.server_acceptor.specs.Sending.{AreForced};
+ghost use Rattle.std.proofs.Props.{props};
+ghost use Rattle.server_acceptor.specs.declared.stop.Stop.{Stop as IsStop};
 
+use crate::stop::Stop;
 use rtrb::{Consumer, Producer};
 use server_core::{AcceptCore, Event};
 use server_jobs::{Note, Parcel, Waiting};
@@ -20,6 +24,10 @@ pub struct Acceptor<L> {
     // Which workers told that their services stand, and which got a stop.
     pub(crate) ready: Vec<bool>,
     pub(crate) stopped: Vec<bool>,
+    // Which workers got a stop that is not graceful.
+    pub(crate) forced: Vec<bool>,
+    // The first stop that was taken up.
+    pub(crate) stop: Option<Stop>,
     // The connection that no worker could take yet.
     pub(crate) waiting: Option<Waiting<L>>,
     // How many connections came in all, and from each listener.
@@ -41,6 +49,8 @@ pub struct Acceptor<L> {
     pub(crate) lacks_room: bool,
     ghost room: { vec_len events ≤ vec_capacity events },
     ghost workers: { (length parcels.items ≡ length core.out) × (length notes.items ≡ length core.out) × (length ready.items ≡ length core.out) × (length stopped.items ≡ length core.out) },
+    ghost as_many_forced: { length forced.items ≡ length core.out },
+    ghost kept: { IsKept core } by { Prim.hlevel props },
     ghost listeners: { (length places.items ≡ length core.ended) × (length failed.items ≡ length core.ended) },
     ghost most: { length core.out ≤ 512 },
     ghost few: { length core.ended ≤ 64 },
@@ -56,9 +66,10 @@ pub struct Acceptor<L> {
     ghost fits: { sum core.out ≤ core.given },
     // Nothing is accepted before all services stand.
     ghost early: { list_all (λ ready. ready) ready.items ≡ false → serial ≡ 0 },
-    // Nothing tells it to pause or to stop.
-    ghost unpaused: { core.paused ≡ false },
-    ghost unstopped: { core.stopping ≡ None },
+    // The core knows of the stop that is kept.
+    ghost agrees: { core.stopping ≡ option_map (λ (s : IsStop). s.graceful) stop },
+    // Each worker that is marked so was sent a stop that is not graceful.
+    ghost forced_sent: { AreForced parcels.items forced.items },
     // A listener that failed as often as it may has ended.
     ghost patient: { (t : ℕ) → slice_index_or core.ended t true ≡ false → slice_index core.failures t < retry_limit },
     // Each worker is in order, as long as none ends by a fault.

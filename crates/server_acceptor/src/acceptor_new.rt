@@ -36,6 +36,7 @@ impl<L: Drop> Acceptor<L> {
             events,
             ready,
             stopped,
+            forced,
             places,
             failed,
         } = room;
@@ -47,6 +48,8 @@ impl<L: Drop> Acceptor<L> {
             notes,
             ready,
             stopped,
+            forced,
+            stop: None,
             waiting: None,
             serial: 0,
             places,

@@ -3,7 +3,7 @@ ghost use Rattle.std.specs.Prelude.{◌≡◌, ◌⊎◌, ◌+◌, ◌*◌, ◌�
 ghost use Rattle.server_core.specs.Core.{is_open};
 ghost use Rattle.server_run.specs.Delivery.{given_at};
 ghost use Rattle.server_run.specs.Done.{Keeps};
-ghost use Rattle.server_acceptor.specs.Accepting.{AsksFrom, AsksInTurn, EndsByFault, GaveOrSkipped, HasHalted, HasSettled, IsAskedOut, IsBackedOff, MayAsk, Proceeds, is_failed, refused};
+ghost use Rattle.server_acceptor.specs.Accepting.{AsksFrom, AsksInTurn, EndsByFault, GaveOrSkipped, HasHalted, HasSettled, IsAccepting, IsAskedOut, IsBackedOff, LeavesStops, MayAsk, Proceeds, is_failed, refused};
 ghost use Rattle.server_acceptor.specs.Acceptors.{all_ready, core_of, events_of, first_of, listeners_of, out_of, places_of, workers_of};
 ghost use Rattle.server_acceptor.specs.Asking.{AskDoes, ComesTo, MakesRoom};
 ghost use Rattle.server_acceptor.specs.Listening.{NeverFall};
@@ -57,6 +57,7 @@ impl<L: Link> Acceptor<L> {
         requires given { (t : ℕ) → slice_index_or (places_of self.old) t 0 ≤ given_at Li.given listeners.old.items t }
         requires opened { is_open (core_of self.old) t ≡ true }
         requires ready { all_ready self.old ≡ true }
+        requires accepts { IsAccepting (core_of self.old) }
         requires may { MayAsk self.old }
         requires events { length (events_of self.old) + 2 ≤ 8 * workers_of self.old + 600 }
         ensures given { (t : ℕ) → slice_index_or (places_of self.new) t 0 ≤ given_at Li.given listeners.new.items t }
@@ -80,6 +81,7 @@ impl<L: Link> Acceptor<L> {
         requires spare { out_of self.old ≤ Do.spare done.old }
         requires opened { is_open (core_of self.old) t ≡ true }
         requires ready { all_ready self.old ≡ true }
+        requires accepts { IsAccepting (core_of self.old) }
         requires may { MayAsk self.old }
         ensures given { (t : ℕ) → slice_index_or (places_of self.new) t 0 ≤ given_at Li.given listeners.new.items t }
         ensures spare { out_of self.new ≤ Do.spare done.new }
@@ -128,6 +130,7 @@ impl<L: Link> Acceptor<L> {
         requires given { (t : ℕ) → slice_index_or (places_of self.old) t 0 ≤ given_at Li.given listeners.old.items t }
         requires spare { out_of self.old ≤ Do.spare done.old }
         requires ready { all_ready self.old ≡ true }
+        requires accepts { IsAccepting (core_of self.old) }
         requires may { MayAsk self.old }
         ensures given { (t : ℕ) → slice_index_or (places_of self.new) t 0 ≤ given_at Li.given listeners.new.items t }
         ensures spare { out_of self.new ≤ Do.spare done.new }
@@ -167,6 +170,7 @@ impl<L: Link> Acceptor<L> {
         requires given { (t : ℕ) → slice_index_or (places_of self.old) t 0 ≤ given_at Li.given listeners.old.items t }
         requires spare { out_of self.old ≤ Do.spare done.old }
         requires ready { all_ready self.old ≡ true }
+        requires accepts { IsAccepting (core_of self.old) }
         requires may { MayAsk self.old }
         ensures given { (t : ℕ) → slice_index_or (places_of self.new) t 0 ≤ given_at Li.given listeners.new.items t }
         ensures spare { out_of self.new ≤ Do.spare done.new }
@@ -202,6 +206,7 @@ impl<L: Link> Acceptor<L> {
         requires given { (t : ℕ) → slice_index_or (places_of self.old) t 0 ≤ given_at Li.given listeners.old.items t }
         requires spare { out_of self.old ≤ Do.spare done.old }
         requires ready { all_ready self.old ≡ true }
+        requires accepts { IsAccepting (core_of self.old) }
         requires may { MayAsk self.old }
         ensures given { (t : ℕ) → slice_index_or (places_of self.new) t 0 ≤ given_at Li.given listeners.new.items t }
         ensures spare { out_of self.new ≤ Do.spare done.new }
@@ -209,6 +214,7 @@ impl<L: Link> Acceptor<L> {
         ensures first { first_of self.new ≡ first_of self.old }
         ensures once { (t : ℕ) → count_by (is_failed t) (events_of self.new) ≤ count_by (is_failed t) (events_of self.old) + 1 }
         ensures in_turn { AsksInTurn Li.given Li.waits Li.skips listeners.old.items listeners.new.items self.old self.new now }
+        ensures leaves { LeavesStops self.old self.new }
         ensures refusals { is_some (refused (Some []) (events_of self.new)) ≡ true }
         ensures on { result ≡ On → ⊥ }
         ensures settled { result ≡ Settled → MayAsk self.new

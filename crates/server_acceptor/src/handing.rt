@@ -29,6 +29,7 @@ impl<L: Link> Acceptor<L> {
         ensures core_waiting { self.new.core.waiting ≡ self.old.core.waiting }
         ensures order { self.new.core.order ≡ self.old.core.order }
         ensures paused { self.new.core.paused ≡ self.old.core.paused }
+        ensures stopping { self.new.core.stopping ≡ self.old.core.stopping }
         ensures parcels { self.new.parcels ≡ self.old.parcels }
         ensures notes { self.new.notes.items ≡ self.old.notes.items }
         ensures waiting { self.new.waiting ≡ self.old.waiting }
@@ -45,7 +46,7 @@ impl<L: Link> Acceptor<L> {
     // Takes the next note of a worker. False says that the worker ended by a fault.
     pub(crate) fn take_note<Do: Done<L>>(&mut self, w: usize, done: &mut Do) -> bool
         requires number { w < length self.old.core.out }
-        requires may { IfSome (slice_get self.old.notes.items w) (λ c. MayTake (slice_index self.old.core.out w) (known_items c)) }
+        requires may { IfSome (slice_get self.old.notes.items w) (λ c. MayTake (slice_index self.old.core.out w) self.old.core.stopping (known_items c)) }
         requires room { vec_len self.old.events + 2 ≤ 8 * length self.old.core.out + 600 }
         requires spare { sum self.old.core.out + held self.old.core.waiting ≤ Do.spare done.old }
         ensures logs { Logs self.old.core self.new.core self.old.events.items self.new.events.items }

@@ -4,7 +4,7 @@ ghost use Rattle.rtrb.specs.Ring.{known_items};
 ghost use Rattle.server_acceptor.specs.Accepting.{EndsByFault, HasTaken, HasTold, IsShort, refused};
 ghost use Rattle.server_acceptor.specs.Acceptors.{events_of, out_of, workers_of};
 ghost use Rattle.server_acceptor.specs.Handing.{Hands, MayTake};
-ghost use Rattle.server_acceptor.specs.Notes.{IsBackFirst};
+ghost use Rattle.server_acceptor.specs.Notes.{AreLeft};
 
 use crate::acceptor::Acceptor;
 use server_jobs::Note;
@@ -15,8 +15,8 @@ impl<L: Link> Acceptor<L> {
     // Whether a note of the worker is known that may be taken.
     fn may_take(&self, w: usize) -> bool
         requires number { w < length self.now.core.out }
-        ensures yes { IsTrue result → IfSome (slice_get self.now.notes.items w) (λ c. MayTake (slice_index self.now.core.out w) (known_items c)) }
-        ensures no { IsFalse result → IfSome (slice_get self.now.notes.items w) (λ c. (known_items c ≡ []) ⊎ ((slice_index self.now.core.out w ≡ 0) × IsBackFirst (known_items c)))
+        ensures yes { IsTrue result → IfSome (slice_get self.now.notes.items w) (λ c. MayTake (slice_index self.now.core.out w) self.now.core.stopping (known_items c)) }
+        ensures no { IsFalse result → IfSome (slice_get self.now.notes.items w) (λ c. AreLeft (slice_index self.now.core.out w) self.now.core.stopping (known_items c))
             ⊎ (8 * length self.now.core.out + 600 < vec_len self.now.events + 2) }
         ensures room { IsTrue result → vec_len self.now.events + 2 ≤ 8 * length self.now.core.out + 600 }
     {
@@ -28,7 +28,9 @@ impl<L: Link> Acceptor<L> {
             return false;
         }
         match notes.peek_known() {
-            Note::Back(_) => self.core.out(w) > 0,
+            Note::Back(entry) => {
+                self.core.out(w) > 0 && (self.core.stopping() || !entry.outcome.is_stopped())
+            }
             Note::Ready | Note::Faulted => true,
         }
     }
@@ -45,7 +47,7 @@ impl<L: Link> Acceptor<L> {
         self.notes[w].slots();
     }
 
-    // Takes the notes of a worker that are known, as far as connections are out at it. False says that it ended by a fault.
+    // Takes the notes of a worker that are known, as far as connections are out at it, and none that was stopped before a stop. False says that it ended by a fault.
     pub(crate) fn take_known<Do: Done<L>>(&mut self, w: usize, done: &mut Do) -> bool
         requires number { w < workers_of self.old }
         requires spare { out_of self.old ≤ Do.spare done.old }

@@ -10,6 +10,7 @@ pub struct Room {
     pub(crate) events: Vec<Event>,
     pub(crate) ready: Vec<bool>,
     pub(crate) stopped: Vec<bool>,
+    pub(crate) forced: Vec<bool>,
     pub(crate) places: Vec<u64>,
     pub(crate) failed: Vec<Option<u64>>,
 }
@@ -24,6 +25,7 @@ impl Room {
             events: Vec::with_capacity(alloc, 8 * workers + 600)?,
             ready: vec![in alloc; false; workers]?,
             stopped: vec![in alloc; false; workers]?,
+            forced: vec![in alloc; false; workers]?,
             places: vec![in alloc; 0; listeners]?,
             failed: vec![in alloc; None; listeners]?,
         })

@@ -32,6 +32,13 @@ impl<L: Link> Acceptor<L> {
         self.waiting.is_some()
     }
 
+    /// Whether a stop was taken up.
+    pub fn is_stopping(&self) -> bool
+        ensures { result ≡ is_some (core_of self.now).stopping }
+    {
+        self.core.stopping()
+    }
+
     /// What became of a listener so far.
     pub fn listener_state(&self, token: usize) -> ListenerState
         requires { token < listeners_of self.now }

@@ -9,6 +9,8 @@ pub(crate) enum Deed {
     Take,
     /// It takes a connection, and hands it back.
     Back,
+    /// It takes a connection, and hands it back as one that was stopped.
+    Halt,
     /// It hands back a connection that it did not take.
     Stray,
     /// Nothing. How many of its notes were not taken yet?

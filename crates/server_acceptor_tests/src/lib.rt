@@ -8,6 +8,8 @@ mod answer;
 #[cfg(test)]
 mod book;
 #[cfg(test)]
+mod command_tests;
+#[cfg(test)]
 mod deed;
 #[cfg(test)]
 mod end_tests;

@@ -3,9 +3,9 @@ ghost use Rattle.std.specs.Prelude.{◌≤◌};
 use crate::answer::name_of;
 use crate::staff::outcome_of;
 use server_acceptor::{AcceptTurn, Placed};
-use server_core::Event;
+use server_core::{Command, Event};
 use server_jobs::Parcel;
-use server_run::{End, Entry, MemoryLink};
+use server_run::{End, Entry, MemoryLink, Outcome};
 use service_core::Octets;
 use std::alloc::{AllocError, Global};
 
@@ -58,11 +58,21 @@ impl Log {
         self.number(number);
     }
 
+    // An event.
+    fn event(&mut self, event: Event) {
+        match event {
+            Event::Command(command) => self.word(told(command)),
+            event => {
+                let (word, number) = words(event);
+                self.before(word, number as u64);
+            }
+        }
+    }
+
     /// The events from that one on.
     pub(crate) fn events(&mut self, events: &[Event], from: usize) {
         for event in events.iter().skip(from) {
-            let (word, number) = words(*event);
-            self.before(word, number as u64);
+            self.event(*event);
         }
     }
 
@@ -72,6 +82,10 @@ impl Log {
             AcceptTurn::Going => {}
             AcceptTurn::WorkerEnded(w) => self.before(", lost ", w as u64),
             AcceptTurn::Finished(End::Drained) => self.word(", drained"),
+            AcceptTurn::Finished(End::Stopped { graceful: true }) => self.word(", stopped"),
+            AcceptTurn::Finished(End::Stopped { graceful: false }) => self.word(
+                ", stopped at once",
+            ),
             AcceptTurn::Finished(End::Memory) => self.word(", memory"),
         }
     }
@@ -113,7 +127,9 @@ impl Log {
     fn entry(&mut self, entry: &Entry<MemoryLink>) {
         self.word("done: ");
         self.connection(entry.serial, entry.token, entry.place, &entry.link);
-        if entry.outcome != outcome_of(entry.serial) {
+        if entry.outcome.is_stopped() {
+            self.word(let_go(entry.outcome));
+        } else if entry.outcome != outcome_of(entry.serial) {
             self.word(" with a wrong outcome");
         }
         self.word("\n");
@@ -132,6 +148,24 @@ impl Log {
             return Err(AllocError);
         }
         Ok(self.text.as_bytes() == wanted)
+    }
+}
+
+// A command in words.
+fn told(command: Command) -> &'static str {
+    match command {
+        Command::Pause => ", pause",
+        Command::Resume => ", resume",
+        Command::Stop { graceful: true } => ", stop",
+        Command::Stop { graceful: false } => ", stop at once",
+    }
+}
+
+// How a connection was stopped, in words.
+fn let_go(outcome: Outcome) -> &'static str {
+    match outcome {
+        Outcome::Stopped { forced: false } => " let go",
+        _ => " stopped",
     }
 }
 

@@ -24,7 +24,7 @@ pub(crate) fn outcome_of(serial: u64) -> Outcome {
 }
 
 // The note that a connection has ended.
-fn note_of(parcel: Parcel<MemoryLink>) -> Option<Note<MemoryLink>> {
+fn note_of(parcel: Parcel<MemoryLink>, halted: bool) -> Option<Note<MemoryLink>> {
     match parcel {
         Parcel::Conn {
             serial,
@@ -36,7 +36,11 @@ fn note_of(parcel: Parcel<MemoryLink>) -> Option<Note<MemoryLink>> {
             token,
             place,
             link,
-            outcome: outcome_of(serial),
+            outcome: if halted {
+                Outcome::Stopped { forced: true }
+            } else {
+                outcome_of(serial)
+            },
         })),
         Parcel::Stop { graceful: _ } => None,
     }
@@ -56,9 +60,9 @@ impl Staff {
         }
     }
 
-    // The note that a connection has ended that the worker takes.
-    fn ended(&mut self, w: usize) -> Option<Note<MemoryLink>> {
-        note_of(self.taken(w)?)
+    // The note that a connection has ended that the worker takes, or was stopped.
+    fn ended(&mut self, w: usize, halted: bool) -> Option<Note<MemoryLink>> {
+        note_of(self.taken(w)?, halted)
     }
 
     // The note that a connection has ended that no worker took.
@@ -78,7 +82,8 @@ impl Staff {
             Deed::Ready => Some(Note::Ready),
             Deed::Fault => Some(Note::Faulted),
             Deed::Stray => Some(self.stray()),
-            Deed::Back => self.ended(w),
+            Deed::Back => self.ended(w, false),
+            Deed::Halt => self.ended(w, true),
             Deed::Take | Deed::Notes => None,
         }
     }
@@ -125,7 +130,7 @@ impl Staff {
         match deed {
             Deed::Take => self.show_taken(w, log),
             Deed::Notes => self.show_notes(w, log),
-            Deed::Ready | Deed::Fault | Deed::Stray | Deed::Back => {
+            Deed::Ready | Deed::Fault | Deed::Stray | Deed::Back | Deed::Halt => {
                 if !self.send(w, deed) {
                     log.word("refused\n");
                 }

@@ -15,6 +15,7 @@ use futures::task::Context;
 use futures::test::MockTask;
 use rtrb::{Consumer, Producer};
 use server_acceptor::{AcceptTurn, Acceptor};
+use server_commands::{CommandStep, ScriptCommands};
 use server_jobs::{Note, Parcel, StepClock};
 use server_run::{Done, Listener, MemoryLink, MemoryListener};
 use std::alloc::{AllocError, Global};
@@ -25,6 +26,7 @@ pub(crate) struct Stage {
     alloc: Global,
     acceptor: Acceptor<MemoryLink>,
     listeners: Vec<MemoryListener>,
+    commands: ScriptCommands,
     clock: StepClock,
     book: Book,
     staff: Staff,
@@ -68,11 +70,21 @@ fn begun(
     )
 }
 
+// Commands that come so.
+fn scripted(alloc: Global, steps: &[CommandStep]) -> Result<ScriptCommands, AllocError> {
+    let mut script = Vec::new(alloc);
+    for step in steps {
+        script.push(*step)?;
+    }
+    Ok(ScriptCommands::new(alloc, script))
+}
+
 // A stage of these parts.
 fn set(
     alloc: Global,
     plan: &Plan,
     listeners: Vec<MemoryListener>,
+    commands: ScriptCommands,
     there: Rings<Parcel<MemoryLink>>,
     back: Rings<Note<MemoryLink>>,
 ) -> Result<Stage, AllocError> {
@@ -82,6 +94,7 @@ fn set(
         alloc,
         acceptor,
         listeners,
+        commands,
         clock: StepClock::new(0, plan.step),
         book: Book::new(alloc, plan.rooms),
         staff: Staff {
@@ -96,19 +109,29 @@ fn set(
 
 // How the acceptor is turned.
 impl Stage {
-    /// A stage by a plan, with listeners that answer so.
-    pub(crate) fn new(alloc: Global, plan: &Plan, answers: &[Answer]) -> Result<Stage, AllocError> {
+    /// A stage by a plan, with commands that come so, and listeners that answer so.
+    pub(crate) fn new(
+        alloc: Global,
+        plan: &Plan,
+        steps: &[CommandStep],
+        answers: &[Answer],
+    ) -> Result<Stage, AllocError> {
+        let commands = scripted(alloc, steps)?;
         let listeners = listeners(alloc, plan.listeners, answers)?;
         let there = Rings::new(alloc, plan.workers, plan.places)?;
         let back = Rings::new(alloc, plan.workers, plan.places)?;
-        set(alloc, plan, listeners, there, back)
+        set(alloc, plan, listeners, commands, there, back)
     }
 
     // One turn. Without memory nothing more is told.
     fn turn(&mut self, cx: &mut Context<'_>) -> AcceptTurn {
-        let turned = self
-            .acceptor
-            .turn(cx, &mut self.listeners, &mut self.clock, &mut self.book);
+        let turned = self.acceptor.turn(
+            cx,
+            &mut self.listeners,
+            &mut self.commands,
+            &mut self.clock,
+            &mut self.book,
+        );
         if self.book.is_short() {
             self.log.lack_memory();
         }

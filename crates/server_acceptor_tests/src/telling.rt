@@ -4,6 +4,7 @@ use crate::answer::Answer;
 use crate::plan::Plan;
 use crate::stage::Stage;
 use futures::test::MockTask;
+use server_commands::CommandStep;
 use std::alloc::{AllocError, AllocGlobal, Global};
 use std::process::Abort;
 use std::random::RandomSource;
@@ -19,11 +20,12 @@ fn made_tells(
     task: &MockTask,
     alloc: Global,
     plan: Plan,
+    steps: &[CommandStep],
     answers: &[Answer],
     acts: &[Act],
     wanted: &[u8],
 ) -> Result<bool, AllocError> {
-    match Stage::new(alloc, &plan, answers) {
+    match Stage::new(alloc, &plan, steps, answers) {
         Ok(mut stage) => {
             let told = stage.tells(task, acts, wanted);
             drop(stage);
@@ -33,7 +35,7 @@ fn made_tells(
     }
 }
 
-/// Whether an acceptor by the plan, over listeners that answer so, tells this where all of that is done.
+/// Whether an acceptor by the plan, over listeners that answer so, tells this where all of that is done, and no command comes.
 pub(crate) fn tells<R: Given>(
     rt: &R,
     plan: Plan,
@@ -41,8 +43,20 @@ pub(crate) fn tells<R: Given>(
     acts: &[Act],
     wanted: &[u8],
 ) -> Result<bool, AllocError> {
+    tells_told(rt, plan, &[], answers, acts, wanted)
+}
+
+/// The same where commands come so.
+pub(crate) fn tells_told<R: Given>(
+    rt: &R,
+    plan: Plan,
+    steps: &[CommandStep],
+    answers: &[Answer],
+    acts: &[Act],
+    wanted: &[u8],
+) -> Result<bool, AllocError> {
     match MockTask::new(rt) {
-        Ok(task) => made_tells(&task, rt.alloc(), plan, answers, acts, wanted),
+        Ok(task) => made_tells(&task, rt.alloc(), plan, steps, answers, acts, wanted),
         Err(_) => Err(AllocError),
     }
 }

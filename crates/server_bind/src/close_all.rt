@@ -1,5 +1,5 @@
-ghost use Rattle.std.specs.Prelude.{◌≡◌, ◌+◌, ◌^◌, ◌<◌, ◌∷◌, [], None};
-ghost use Rattle.server_run.specs.Done.{Adds, is_served};
+ghost use Rattle.std.specs.Prelude.{◌≡◌, ◌+◌, ◌^◌, ◌<◌, ◌≤◌, ◌∷◌, [], None, Ok};
+ghost use Rattle.server_run.specs.Done.{Adds, Keeps, is_served};
 
 use server_run::{Done, Entry, Outcome};
 use std::alloc::AllocError;
@@ -57,7 +57,12 @@ impl<L: Drop> Done<L> for CloseAll {
 
     ghost spare = { λ done. done.spare };
 
-    fn make_room(&mut self, n: u64) -> Result<(), AllocError> {
+    /// It is never refused.
+    fn make_room(&mut self, n: u64) -> Result<(), AllocError>
+        ensures made { result ≡ Ok tt }
+        ensures room { n ≤ self.new.spare }
+        ensures same { Keeps ⟦<CloseAll as Done<L>>⟧.taken ⟦<CloseAll as Done<L>>⟧.count ⟦<CloseAll as Done<L>>⟧.served self.old self.new }
+    {
         self.spare = self.spare.max(n);
         Ok(())
     }

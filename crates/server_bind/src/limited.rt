@@ -4,7 +4,7 @@ ghost use Rattle.server_bind.specs.Limiting.{nothing_left, until};
 use server_run::{Accepted, Listener};
 
 /// A listener that ends after so many connections, or where the one behind it does (as `std::io::Take` of bytes).
-#[derive(Drop)]
+#[derive(Debug, Drop)]
 pub struct Limited<Li> {
     listener: Li,
     /// How many more it gives at the most.

@@ -3,8 +3,10 @@ ghost use Rattle.server_edge.specs.Counting.{IsFresh};
 
 use crate::seats::Seats;
 use server_jobs::{Seat, Spawner};
+use server_reactor::Reactor;
 use server_run::Host;
 use std::alloc::{AllocError, Global};
+use std::sync::Arc;
 
 /// Starts each job in a thread of its own.
 #[derive(Drop)]
@@ -15,15 +17,29 @@ pub struct ThreadSpawner {
 }
 
 impl ThreadSpawner {
-    /// It has started nothing.
+    /// It has started nothing. Its threads park.
     pub fn new(alloc: Global) -> Result<ThreadSpawner, AllocError>
         ensures { IfOk result (IsFresh ⟦<ThreadSpawner as Spawner>⟧.starts ⟦<ThreadSpawner as Spawner>⟧.refusals) }
     {
-        Ok(ThreadSpawner {
-            seats: Seats::new(alloc)?,
+        Ok(ThreadSpawner::at(Seats::new(alloc, None)?))
+    }
+
+    /// It has started nothing. Once the reactor has a listener, the threads of jobs wait for sockets, in the sleep of the
+    /// `ReactorHost` that the job is started with, and so does the thread of their starter.
+    pub fn over(alloc: Global, reactor: Arc<Reactor>) -> Result<ThreadSpawner, AllocError>
+        ensures { IfOk result (IsFresh ⟦<ThreadSpawner as Spawner>⟧.starts ⟦<ThreadSpawner as Spawner>⟧.refusals) }
+    {
+        Ok(ThreadSpawner::at(Seats::new(alloc, Some(reactor))?))
+    }
+
+    fn at(seats: Seats) -> ThreadSpawner
+        ensures { IsFresh ⟦<ThreadSpawner as Spawner>⟧.starts ⟦<ThreadSpawner as Spawner>⟧.refusals result }
+    {
+        ThreadSpawner {
+            seats,
             starts: 0,
             refusals: 0,
-        })
+        }
     }
 }
 
@@ -32,7 +48,7 @@ impl Spawner for ThreadSpawner {
 
     ghost refusals = { λ spawner. spawner.refusals };
 
-    /// It is refused only for want of memory.
+    /// It is refused only for want of memory, or of a seat where the reactor has no more.
     fn seat(&mut self) -> Option<Seat> {
         match self.seats.add() {
             Ok(seat) => Some(seat),
@@ -52,9 +68,7 @@ impl Spawner for ThreadSpawner {
     }
 
     fn rest<Ho: Host>(&mut self, rt: &Ho, busy: bool) {
-        if !busy {
-            self.seats.rest(rt);
-        }
+        self.seats.rest(rt, busy);
     }
 
     fn ring(&mut self, number: usize) {

@@ -1,5 +1,5 @@
 -- What a join knows, by the job's account and by the rings.
-use Rattle.std.proofs.Common.{◌≡◌, ◌++◌, [], ℕ, ◌+◌, List, sum_by, ◌∙◌, ap, arith}
+use Rattle.std.proofs.Common.{◌≡◌, ◌++◌, [], sum_by, ◌∙◌, ap, arith}
 use Rattle.std.proofs.lemmas.List.Sums.{sum_by-append}
 use Rattle.std.specs.declared.alloc.Global.{Global}
 use Rattle.rtrb.specs.Ring.{received, sent, known_items}
@@ -7,7 +7,7 @@ use Rattle.rtrb.specs.declared.AnyItems.{AnyItems}
 use Rattle.rtrb.specs.declared.consumer.Consumer.{Consumer}
 use Rattle.rtrb.specs.declared.producer.Producer.{Producer}
 use Rattle.service_core.specs.Link.{Identity}
-use Rattle.server_jobs.specs.Cards.{Card, of_note, of_parcel, of_waiting}
+use Rattle.server_jobs.specs.Cards.{of_note, of_parcel, of_waiting}
 use Rattle.server_jobs.specs.Joins.{Accounts, EachOnce}
 use Rattle.server_jobs.specs.declared.handed.Handed.{Handed}
 use Rattle.server_jobs.specs.declared.line.Joined.{Joined}

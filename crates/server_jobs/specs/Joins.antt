@@ -1,5 +1,5 @@
 -- What is known of the connections of a worker's job once its thread is joined.
-use Rattle.std.specs.Prelude.{◌≡◌, ◌+◌, ℕ, List, [], sum_by}
+use Rattle.std.specs.Prelude.{◌≡◌, ◌+◌, ℕ, [], sum_by}
 use Rattle.rtrb.specs.Ring.{received, sent, known_items, ConsumerLooked, IsPair, ProducerLooked, SameConsumer, SameProducer}
 use Rattle.rtrb.specs.declared.AnyItems.{AnyItems}
 use Rattle.rtrb.specs.declared.consumer.Consumer.{Consumer}

@@ -1,3 +1,4 @@
 pub mod Jobs
 pub mod Cards
 pub mod Joins
+pub mod Returning

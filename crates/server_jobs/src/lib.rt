@@ -1,6 +1,7 @@
 //! Jobs: work for threads of their own, what starts them, how they wait, and the rings between a job and who started it.
 #![tactic(auto)]
 
+mod bell;
 mod clock;
 mod handed;
 mod handover;
@@ -12,14 +13,17 @@ mod not_started;
 mod note;
 mod one_task;
 mod parcel;
+mod returning;
 mod running;
 mod seat;
+mod seat_task;
 mod spawner;
 mod step_clock;
 mod thread_factory;
 mod waiter;
 mod waiting;
 
+pub use bell::Bell;
 pub use clock::Clock;
 pub use handed::Handed;
 pub use handover::Handover;
@@ -31,6 +35,7 @@ pub use one_task::OneTask;
 pub use parcel::Parcel;
 pub use running::Running;
 pub use seat::Seat;
+pub use seat_task::SeatTask;
 pub use spawner::Spawner;
 pub use step_clock::StepClock;
 pub use thread_factory::ThreadFactory;

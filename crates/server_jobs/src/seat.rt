@@ -1,27 +1,48 @@
 ghost use Rattle.std.specs.Prelude.{◌≡◌};
 ghost use Rattle.server_jobs.specs.Jobs.{number_of_seat};
 
+use crate::bell::Bell;
 use std::sync::Arc;
 use std::thread::Parker;
 
-/// Where a job waits: its number among the jobs of its spawner, what its thread parks at, and what the thread of its starter
-/// parks at.
+/// Where a job waits, with its number among the jobs of its spawner.
 #[derive(Drop)]
 pub struct Seat {
-    pub(crate) number: usize,
-    pub(crate) mine: Arc<Parker>,
-    pub(crate) starter: Arc<Parker>,
+    number: usize,
+    pub(crate) pause: Pause,
+}
+
+// How a job waits, and how it wakes the thread of its starter.
+#[derive(Drop)]
+pub(crate) enum Pause {
+    // At a parker of its own.
+    Park {
+        mine: Arc<Parker>,
+        starter: Arc<Parker>,
+    },
+    // In the sleep of its host, which hands on that the bell was rung.
+    Host(Arc<Bell>),
 }
 
 impl Seat {
-    /// The seat with this number.
+    /// The seat with this number, of a job that waits at a parker. The thread of its starter waits at the other.
     pub fn new(number: usize, mine: Arc<Parker>, starter: Arc<Parker>) -> Seat
         ensures { number_of_seat result ≡ number }
     {
         Seat {
             number,
-            mine,
-            starter,
+            pause: Pause::Park { mine, starter },
+        }
+    }
+
+    /// The seat with this number, of a job that waits in the sleep of its host. News ends that sleep, and where the bell was rung it
+    /// wakes the thread of the starter. The number is that of the job's task.
+    pub fn of_host(number: usize, bell: Arc<Bell>) -> Seat
+        ensures { number_of_seat result ≡ number }
+    {
+        Seat {
+            number,
+            pause: Pause::Host(bell),
         }
     }
 

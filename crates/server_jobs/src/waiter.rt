@@ -1,8 +1,9 @@
 ghost use Rattle.std.specs.Prelude.{◌≡◌};
 ghost use Rattle.server_jobs.specs.Jobs.{host_of, number_of_seat, number_of_waiter};
 
-use crate::seat::Seat;
+use crate::seat::{Pause, Seat};
 use std::sync::Wait;
+use std::thread;
 use std::thread::yield_now;
 use std::time::{Clock, Duration};
 
@@ -10,6 +11,9 @@ use std::time::{Clock, Duration};
 const ROUNDS: u32 = 2_000;
 
 const BUSY_ROUNDS: u32 = 100;
+
+// Milliseconds.
+const LONGEST: u64 = 10;
 
 /// What a job waits with. It keeps a host.
 #[derive(Drop)]
@@ -47,14 +51,31 @@ impl<Ho> Waiter<Ho> {
         self.seat.number()
     }
 
-    /// Wakes who started the job: there is something to take. It claims nothing.
+    /// Whether it waits in the sleep of its host, which news ends. Then the job's task is to have the number of the seat. It claims
+    /// nothing.
+    pub fn sleeps(&self) -> bool {
+        matches!(self.seat.pause, Pause::Host(_))
+    }
+
+    /// Wakes who started the job: there is something to take. He wakes no later than at the next wait. It claims nothing.
     pub fn ring(&self) {
-        self.seat.starter.unpark();
+        match &self.seat.pause {
+            Pause::Park { mine: _, starter } => starter.unpark(),
+            Pause::Host(bell) => bell.ring(),
+        }
+    }
+
+    /// Whether the last wait may have ended for news. It claims nothing.
+    pub fn is_roused(&self) -> bool {
+        match &self.seat.pause {
+            Pause::Park { .. } => true,
+            Pause::Host(bell) => bell.is_roused(),
+        }
     }
 
     /// Whether the next wait parks the thread. It claims nothing.
     pub fn is_tired(&self) -> bool {
-        self.idle >= ROUNDS
+        !self.sleeps() && self.idle >= ROUNDS
     }
 
     /// The job did something: its next waits are short. It claims nothing.
@@ -72,15 +93,25 @@ impl<Ho: Wait + Clock> Waiter<Ho> {
         ensures host { host_of self.new ≡ host_of self.old }
         ensures number { number_of_waiter self.new ≡ number_of_waiter self.old }
     {
+        let Pause::Park { mine, starter: _ } = &self.seat.pause else {
+            thread::sleep(&self.host, Duration::from_millis(LONGEST));
+            return;
+        };
         if self.idle >= ROUNDS {
-            self.seat
-                .mine
-                .park_timeout(&self.host, Duration::from_millis(10));
+            mine.park_timeout(&self.host, Duration::from_millis(LONGEST));
             return;
         }
         self.idle += 1;
         if self.idle >= BUSY_ROUNDS {
             yield_now();
+        }
+    }
+
+    /// Wakes who started the job, at its end. It claims nothing.
+    pub fn leave(&self) {
+        self.ring();
+        if self.sleeps() {
+            thread::sleep(&self.host, Duration::ZERO);
         }
     }
 }

@@ -1,11 +1,11 @@
 -- A good script is served.
 use Rattle.std.proofs.Common.{◌≡◌, ◌≢◌, ◌≤◌, ◌⊎◌, ℕ, zero, suc, List, Option, Result, Ok, Err, length, inl, inr, refl, subst, arith}
 use Rattle.listening.specs.declared.heard.Heard.{Heard}
+use Rattle.replaying.specs.Reported.{IsReportOf}
+use Rattle.replaying.specs.Summary.{IsSummaryOf}
 use Rattle.script.specs.Script.{Plan, plan_of}
-use Rattle.server_program.specs.Reported.{IsReportOf}
 use Rattle.server_program.specs.Statuses.{IsHeard, SaysOfGenerate, SaysOfListen, SaysOfReplay, StartRefused, Starts, Written, most_of_script}
 use Rattle.server_program.specs.Stream.{Gains}
-use Rattle.server_program.specs.Summary.{IsSummaryOf}
 
 same_plan : {a b : Plan} {p : Result Plan ℕ} → p ≡ Ok a → p ≡ Ok b → a ≡ b
 same_plan first second = cc

@@ -1,5 +1,5 @@
 -- Words that ask to listen.
-use Rattle.std.proofs.Common.{◌≡◌, ℕ, Bool, true, false, List, [], ◌∷◌, length, Option, None, Some, if◌then◌else◌, codes, get_or, IsUtf8, refl, ap}
+use Rattle.std.proofs.Common.{◌≡◌, ℕ, Bool, true, false, List, [], ◌∷◌, Option, None, Some, if◌then◌else◌, codes, get_or, IsUtf8, refl, ap}
 use Rattle.std.proofs.lemmas.Str.{IsUtf8-from_is_utf8, is_utf8-from_IsUtf8}
 use Rattle.std.specs.Option.{option_and_then, option_map}
 use Rattle.std.specs.Str.{bytes_eq, is_utf8}
@@ -37,15 +37,7 @@ module _ (limit : ℕ) where
   by_word true text form other never is = text_if text form is
   by_word false text form other never is = absurd (never is)
 
-  -- they are three
-  pub three : (words : List (List ℕ)) → form_of words ≡ Some (Listen limit) → length words ≡ 3
-  three [] is = absurd (not_none is)
-  three (word ∷ []) is = absurd (not_replay (bytes_eq word (codes "replay")) is)
-  three (word ∷ second ∷ []) is = absurd (not_none is)
-  three (word ∷ second ∷ third ∷ []) is = refl
-  three (word ∷ second ∷ third ∷ more ∷ rest) is = absurd (not_none is)
-
-  -- and the second is text
+  -- the second is text
   pub second_is_text : (word second third : List ℕ) → form_of (word ∷ second ∷ third ∷ []) ≡ Some (Listen limit) → is_utf8 second ≡ true
   second_is_text word second third is =
       by_word (bytes_eq word (codes "listen")) (is_utf8 second) (option_map Listen (number_in 1 1000000 third))

@@ -1,8 +1,8 @@
 -- Why the program writes no report, and what it writes in its place.
 use Rattle.std.specs.Prelude.{◌≡◌, ◌⊎◌, ◌<◌, ⊤, ℕ, true, false, List, Option, Some, Ok, Err, length}
 use Rattle.cors_rules.specs.Refusing.{config_error}
+use Rattle.replaying.specs.Reported.{IsReportOf}
 use Rattle.script.specs.Script.{Plan, is_listening, plan_of}
-use Rattle.server_program.specs.Reported.{IsReportOf}
 use Rattle.server_program.specs.Statuses.{IsWholeScript, Starts, bad_line_text, cannot_listen_text, most_of_script, no_listener_text, no_worker_text, out_of_memory_text, read_failed_text, refused_text, too_long_text, usage_text}
 use Rattle.server_program.specs.Stream.{Hands}
 use Rattle.server_program.specs.declared.refusal.Refusal.{Refusal}

@@ -1,8 +1,8 @@
 //! How the program ends: a status, and a text.
-ghost use Rattle.std.specs.Prelude.{◌≡◌, ◌≢◌, ◌⊎◌, IfErr, IfOk};
+ghost use Rattle.std.specs.Prelude.{◌≡◌, ◌≢◌, IfErr, IfOk};
 ghost use Rattle.service_core.specs.Counts.{Rose};
-ghost use Rattle.server_program.specs.Refusals.{IsMemory, Tells};
-ghost use Rattle.server_program.specs.Statuses.{Written, out_of_memory_text};
+ghost use Rattle.server_program.specs.Refusals.{IsMemory};
+ghost use Rattle.server_program.specs.Statuses.{Written};
 ghost use Rattle.server_program.specs.Text.{text_of};
 
 use crate::io::{Sink, SinkFault, write_all};

@@ -1,5 +1,5 @@
 //! What the words of the command line ask for.
-ghost use Rattle.std.specs.Prelude.{◌≡◌, ◌≤◌, ◌<◌, ℕ, IfSome, Some, slice_get};
+ghost use Rattle.std.specs.Prelude.{◌≡◌, ℕ, IfSome, Some, slice_get};
 ghost use Rattle.server_program.specs.Forms.{IsFormInRange, form_of, generate_form, listen_form};
 ghost use Rattle.server_program.specs.declared.form.Form.TheVariants.{Listen};
 

@@ -3,12 +3,12 @@ ghost use Rattle.std.specs.Prelude.{◌≡◌, ◌≤◌, ◌⊎◌, ℕ, List, 
 ghost use Rattle.service_core.specs.Counts.{Rose};
 ghost use Rattle.script.specs.Script.{Plan, plan_of};
 ghost use Rattle.server.specs.Starting.{RoseBy};
-ghost use Rattle.server_program.specs.Forms.{form_of};
-ghost use Rattle.server_program.specs.Reported.{IsReportOf};
 ghost use Rattle.listening.specs.Listening.{Listened};
+ghost use Rattle.replaying.specs.Reported.{IsReportOf};
+ghost use Rattle.replaying.specs.Summary.{IsSummaryOf};
+ghost use Rattle.server_program.specs.Forms.{form_of};
 ghost use Rattle.server_program.specs.Statuses.{IsHeard, Says, SaysOfReplay, Starts, Written, most_of_script};
 ghost use Rattle.server_program.specs.Stream.{Gains};
-ghost use Rattle.server_program.specs.Summary.{IsSummaryOf};
 ghost use Rattle.server_program.specs.declared.form.Form.TheVariants.{Generate, Listen};
 
 use crate::io::{Sink, Source};

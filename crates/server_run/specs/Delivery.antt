@@ -1,5 +1,5 @@
 -- Each connection that the listeners gave is in one entry, with its link.
-use Rattle.std.specs.Prelude.{◌≡◌, ◌⊎◌, ◌≤◌, ℕ, ◌-◌, ◌==◌, ◌&&◌, nat_lt, if◌then◌else◌, List, length, drop, Option, Some, IfSome, slice_get, All, IsTrue, Bool}
+use Rattle.std.specs.Prelude.{◌≡◌, ◌⊎◌, ◌≤◌, ℕ, true, false, ◌-◌, ◌==◌, ◌&&◌, nat_lt, if◌then◌else◌, List, length, drop, Option, Some, IfSome, slice_get, All, IsTrue, Bool}
 use Rattle.std.specs.List.{count_by}
 use Rattle.std.specs.Option.{option_map, option_map_or, option_and_then}
 use Rattle.service_core.specs.Link.{Identity}
@@ -7,7 +7,7 @@ use Rattle.service_core.specs.declared.ended.Ended.{Ended}
 use Rattle.service_core.specs.declared.ended.How.{How}
 use Rattle.server_run.specs.declared.entry.Entry.{Entry}
 use Rattle.server_run.specs.declared.outcome.Outcome.{Outcome}
-use Rattle.server_run.specs.declared.outcome.Outcome.TheVariants.{Memory}
+use Rattle.server_run.specs.declared.outcome.Outcome.TheVariants as outcome
 use Rattle.server_run.specs.Listener.{Mark}
 use Rattle.server_run.specs.Outcome.{outcome_of}
 
@@ -37,11 +37,21 @@ rest_at rest listeners token = option_and_then rest (slice_get listeners token)
 abbrev pub rise : {Li : Type 0} → (Li → ℕ) → List Li → List Li → ℕ → ℕ
 rise given old new token = given_at given new token - given_at given old token
 
--- A link comes back as its service ended it, or, for want of memory, as the future of such a service hands it back.
+-- A link that its service did not end comes back as it was given, or as the future of such a service hands it back.
+abbrev pub IsLeftAs : {L : Type 0} → (L → L → Type 0) → L → L → Outcome → Type 0
+IsLeftAs may_leave link back outcome.Served = ⊥
+IsLeftAs may_leave link back outcome.ReadFault = ⊥
+IsLeftAs may_leave link back outcome.WriteFault = ⊥
+IsLeftAs may_leave link back outcome.Upgraded = ⊥
+IsLeftAs may_leave link back (outcome.Stopped false) = back ≡ link
+IsLeftAs may_leave link back (outcome.Stopped true) = may_leave link back
+IsLeftAs may_leave link back outcome.Memory = may_leave link back
+
+-- A link comes back as its service ended it, or, after a stop or for want of memory, as it stood then.
 abbrev pub ComesBack : {L : Type 0} → (L → Ended L → Type 0) → (L → L → Type 0) → L → L → Outcome → Type 0
-ComesBack may_serve may_leave link back outcome =
-    ((how : How) × (outcome ≡ outcome_of how) × may_serve link (record { link = back; how = how }))
-    ⊎ ((outcome ≡ Memory) × may_leave link back)
+ComesBack may_serve may_leave link back end =
+    ((how : How) × (end ≡ outcome_of how) × may_serve link (record { link = back; how = how }))
+    ⊎ IsLeftAs may_leave link back end
 
 -- The entry has the link that stood at its place, as it came back.
 pub record IsServedFrom {L : Type 0} (identity : L → Identity) (may_serve : ℕ → L → Ended L → Type 0) (may_leave : ℕ → L → L → Type 0)

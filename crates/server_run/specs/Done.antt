@@ -5,7 +5,7 @@ use Rattle.std.specs.List.{count_by}
 use Rattle.std.specs.Option.{option_map}
 use Rattle.server_run.specs.declared.entry.Entry.{Entry}
 use Rattle.server_run.specs.declared.outcome.Outcome.{Outcome}
-use Rattle.server_run.specs.declared.outcome.Outcome.TheVariants.{Served, ReadFault, WriteFault, Upgraded, Memory}
+use Rattle.server_run.specs.declared.outcome.Outcome.TheVariants.{Served, ReadFault, WriteFault, Upgraded, Stopped, Memory}
 
 -- a count, which stands still at its last value
 abbrev pub counted : ℕ → ℕ
@@ -19,6 +19,7 @@ is_served Served = true
 is_served ReadFault = false
 is_served WriteFault = false
 is_served Upgraded = false
+is_served (Stopped forced) = false
 is_served Memory = false
 
 abbrev pub served_count : {L : Type 0} → List (Entry L) → ℕ

@@ -1,5 +1,5 @@
 -- What an accept does.
-use Rattle.std.specs.Prelude.{◌≡◌, ◌≤◌, ◌+◌, ℕ, List, [], ◌∷◌, ◌++◌, Option}
+use Rattle.std.specs.Prelude.{◌≡◌, ◌≤◌, ◌+◌, ℕ, List, [], ◌∷◌, Option}
 use Rattle.std.specs.Option.{option_map}
 use Rattle.service_core.specs.Counts.{Rose}
 use Rattle.server_run.specs.declared.listener.Accepted.{Accepted}

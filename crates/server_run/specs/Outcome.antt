@@ -1,12 +1,23 @@
--- The outcome of a connection that its service ended.
+-- The outcomes of connections.
+use Rattle.std.specs.Prelude.{Bool, true, false}
 use Rattle.service_core.specs.declared.ended.How.{How}
 use Rattle.server_run.specs.declared.outcome.Outcome.{Outcome}
 use Rattle.service_core.specs.declared.ended.How.TheVariants as how
 use Rattle.server_run.specs.declared.outcome.Outcome.TheVariants as outcome
 
+-- the outcome of a connection that its service ended
 abbrev pub outcome_of : How → Outcome
 outcome_of how.Served = outcome.Served
 outcome_of how.ReadFault = outcome.ReadFault
 outcome_of how.WriteFault = outcome.WriteFault
 outcome_of how.Upgraded = outcome.Upgraded
 outcome_of how.Memory = outcome.Memory
+
+-- the server was stopped first
+abbrev pub is_stopped : Outcome → Bool
+is_stopped outcome.Served = false
+is_stopped outcome.ReadFault = false
+is_stopped outcome.WriteFault = false
+is_stopped outcome.Upgraded = false
+is_stopped (outcome.Stopped forced) = true
+is_stopped outcome.Memory = false

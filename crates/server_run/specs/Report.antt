@@ -1,13 +1,20 @@
 -- What a report says of the listeners, as they were and as they are.
-use Rattle.std.specs.Prelude.{◌≡◌, ◌≢◌, ◌⊎◌, ◌↔◌, ◌<◌, ℕ, ◌++◌, Bool, List, length, Option, Some, slice_get}
+use Rattle.std.specs.Prelude.{◌≡◌, ◌≢◌, ◌⊎◌, ◌↔◌, ◌<◌, ℕ, ◌++◌, Bool, true, false, List, length, Option, Some, slice_get}
 use Rattle.std.specs.Option.{option_map}
 use Rattle.service_core.specs.Counts.{Rose}
 use Rattle.server_run.specs.declared.report.Report.{Report}
-use Rattle.server_run.specs.declared.report.End.TheVariants.{Drained}
+use Rattle.server_run.specs.declared.report.End.{End}
+use Rattle.server_run.specs.declared.report.End.TheVariants.{Drained, Stopped, Memory}
 use Rattle.server_run.specs.declared.report.ListenerState.{ListenerState}
 use Rattle.server_run.specs.declared.report.ListenerState.TheVariants.{Ended, Faulted, Open}
 use Rattle.server_run.specs.Delivery.{HasEnded, given_at, rest_at}
 use Rattle.server_run.specs.Listener.{Mark, in_a_row}
+
+-- a command stopped the run
+abbrev pub is_stop : End → Bool
+is_stop Drained = false
+is_stop (Stopped graceful) = true
+is_stop Memory = false
 
 -- this listener had not ended, and has now
 abbrev pub EndedMeanwhile : {Li : Type 0} → (Li → Bool) → List Li → List Li → ℕ → Type 0

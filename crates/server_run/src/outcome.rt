@@ -1,5 +1,5 @@
 ghost use Rattle.std.specs.Prelude.{◌≡◌};
-ghost use Rattle.server_run.specs.Outcome.{outcome_of};
+ghost use Rattle.server_run.specs.Outcome.{is_stopped, outcome_of};
 
 use service_core::How;
 
@@ -14,6 +14,11 @@ pub enum Outcome {
     WriteFault,
     /// Another protocol took it over.
     Upgraded,
+    /// The server was stopped first.
+    Stopped {
+        /// Whether a service had begun with it. If none had, its link is as it was accepted.
+        forced: bool,
+    },
     /// Memory ran out while it was served.
     Memory,
 }
@@ -30,5 +35,12 @@ impl Outcome {
             How::Upgraded => Outcome::Upgraded,
             How::Memory => Outcome::Memory,
         }
+    }
+
+    /// Whether the server was stopped before it was served to its end.
+    pub fn is_stopped(&self) -> bool
+        ensures { result ≡ is_stopped self.now }
+    {
+        matches!(self, Outcome::Stopped { .. })
     }
 }

@@ -3,6 +3,11 @@
 pub enum End {
     /// No listener gives any more connections, and every connection was handed on.
     Drained,
+    /// A command stopped it, and every connection was handed on.
+    Stopped {
+        /// Whether those that were served had time to end.
+        graceful: bool,
+    },
     /// Memory ran out, and nothing more was accepted.
     Memory,
 }

@@ -2,11 +2,11 @@
 use Rattle.std.specs.Prelude.{ℕ, List, Option}
 use Rattle.std.specs.Net.Grammar.{IsSocketText}
 use Rattle.std.specs.declared.net.socket_addr.SocketAddr.{SocketAddr}
-use Rattle.server_sockets.specs.declared.bind_error.BindError.{BindError}
+use Rattle.server_sockets.specs.declared.socket_bind_error.SocketBindError.{SocketBindError}
 use Rattle.server_sockets.specs.declared.mio_binder.MioBinder.{MioBinder}
 
 -- why it refused an address the last time
-abbrev pub reason : MioBinder → Option BindError
+abbrev pub reason : MioBinder → Option SocketBindError
 reason binder = binder.last_error
 
 -- where the TCP listener listens that it bound last

@@ -2,7 +2,9 @@
 ghost use Rattle.std.specs.Io.{ReadsAtMost, WritesAtMost};
 
 use crate::socket_peer::peer_of;
+use mio::event::Source;
 use mio::net::{TcpStream, UnixStream};
+use mio::{Interest, Registry, Token};
 use service_core::Peer;
 use std::io;
 use std::io::{Read, Write};
@@ -43,6 +45,39 @@ impl MioStream {
         match self {
             MioStream::Tcp(stream) => stream.write(piece),
             MioStream::Uds(stream) => stream.write(piece),
+        }
+    }
+}
+
+impl Source for MioStream {
+    fn register(
+        &mut self,
+        registry: &Registry,
+        token: Token,
+        interests: Interest,
+    ) -> io::Result<()> {
+        match self {
+            MioStream::Tcp(stream) => stream.register(registry, token, interests),
+            MioStream::Uds(stream) => stream.register(registry, token, interests),
+        }
+    }
+
+    fn reregister(
+        &mut self,
+        registry: &Registry,
+        token: Token,
+        interests: Interest,
+    ) -> io::Result<()> {
+        match self {
+            MioStream::Tcp(stream) => stream.reregister(registry, token, interests),
+            MioStream::Uds(stream) => stream.reregister(registry, token, interests),
+        }
+    }
+
+    fn deregister(&mut self, registry: &Registry) -> io::Result<()> {
+        match self {
+            MioStream::Tcp(stream) => stream.deregister(registry),
+            MioStream::Uds(stream) => stream.deregister(registry),
         }
     }
 }

@@ -6,16 +6,19 @@ ghost use Rattle.server_sockets.specs.Fresh.{IsFresh};
 ghost use Rattle.service_core.specs.Link.{FaultCount, WaitCount};
 
 use crate::answer::{Answer, answer_of};
+use crate::watched_stream::WatchedStream;
 use crate::{FromStream, MioStream};
 use futures::task::{Context, Poll};
+use server_reactor::Watch;
 use service_core::{Link, LinkFault, Peer};
 
 /// A connection over a socket that doesn't block (`mio::net::TcpStream`, `mio::net::UnixStream`). It tells no bytes.
 ///
-/// Each poll reads or writes. One that moves nothing asks to be polled again.
+/// Each poll reads or writes, or a reactor has told that this would move nothing. One that moves nothing asks to be polled again.
+/// With a reactor, the number of the task that polls it is that of the seat of its thread.
 #[derive(Drop)]
 pub struct SocketLink {
-    stream: MioStream,
+    stream: WatchedStream,
     peer: Peer,
     taken: u64,
     read_faults: u64,
@@ -26,12 +29,12 @@ pub struct SocketLink {
 
 impl SocketLink {
     /// A link that nothing was done with, to this peer. The caller has made the stream non-blocking.
-    pub(crate) fn new(stream: MioStream, peer: Peer) -> SocketLink
+    pub(crate) fn new(stream: MioStream, peer: Peer, watch: Option<Watch>) -> SocketLink
         ensures fresh { IsFresh ⟦<SocketLink as Link>⟧.taken ⟦<SocketLink as Link>⟧.read_faults ⟦<SocketLink as Link>⟧.write_faults ⟦<SocketLink as Link>⟧.read_waits ⟦<SocketLink as Link>⟧.write_waits result }
         ensures peer { (⟦<SocketLink as Link>⟧.identity result).peer ≡ peer }
     {
         SocketLink {
-            stream,
+            stream: WatchedStream::new(stream, watch),
             peer,
             taken: 0,
             read_faults: 0,
@@ -100,7 +103,7 @@ impl FromStream for SocketLink {
         ensures fresh { IsFresh ⟦<SocketLink as Link>⟧.taken ⟦<SocketLink as Link>⟧.read_faults ⟦<SocketLink as Link>⟧.write_faults ⟦<SocketLink as Link>⟧.read_waits ⟦<SocketLink as Link>⟧.write_waits result }
     {
         let peer = sock.peer();
-        SocketLink::new(sock, peer)
+        SocketLink::new(sock, peer, None)
     }
 }
 
@@ -128,12 +131,12 @@ impl Link for SocketLink {
         cx: &mut Context<'_>,
         buf: &mut [u8],
     ) -> Poll<Result<usize, LinkFault>> {
-        let answer = answer_of(self.stream.read(buf));
+        let answer = answer_of(self.stream.read(cx.task(), buf));
         self.tell_read(cx, answer)
     }
 
     fn poll_write(&mut self, cx: &mut Context<'_>, piece: &[u8]) -> Poll<Result<usize, LinkFault>> {
-        let answer = answer_of(self.stream.write(piece));
+        let answer = answer_of(self.stream.write(cx.task(), piece));
         self.tell_write(cx, answer)
     }
 

@@ -1,4 +1,4 @@
-ghost use Rattle.std.specs.Prelude.{◌≡◌, ◌+◌, ◌<◌, ◌^◌, ◌↔◌, IsTrue, None, false};
+ghost use Rattle.std.specs.Prelude.{◌≡◌, ◌+◌, ◌<◌, ◌^◌, ◌↔◌, IsTrue, None, false, IfOk};
 ghost use Rattle.server_run.specs.Listener.{IsMarked, IsTakenFrom, OnGot, Rises};
 ghost use Rattle.server_run.specs.declared.listener.Accepted.TheVariants.{Ended, Failed, NotYet, Skipped};
 ghost use Rattle.server_sockets.specs.Answers.{TellsRefusal};
@@ -6,11 +6,15 @@ ghost use Rattle.server_sockets.specs.Answers.{TellsRefusal};
 use crate::refusal::{Refusal, refusal_of};
 use crate::socket_peer::peer_of;
 use crate::{MioStream, SocketLink};
+use mio::event::Source;
 use mio::net::{TcpListener, UnixListener};
+use mio::{Interest, Registry, Token};
+use server_reactor::{Arrivals, Reactor, Watch};
 use server_run::{Accepted, Listener};
 use service_core::Peer;
 use std::io;
 use std::net::SocketAddr;
+use std::sync::Arc;
 
 // What listens.
 #[derive(Drop)]
@@ -37,8 +41,66 @@ impl MioListener {
     }
 }
 
+impl Source for MioListener {
+    fn register(
+        &mut self,
+        registry: &Registry,
+        token: Token,
+        interests: Interest,
+    ) -> io::Result<()> {
+        match self {
+            MioListener::Tcp(listener) => listener.register(registry, token, interests),
+            MioListener::Uds(listener) => listener.register(registry, token, interests),
+        }
+    }
+
+    fn reregister(
+        &mut self,
+        registry: &Registry,
+        token: Token,
+        interests: Interest,
+    ) -> io::Result<()> {
+        match self {
+            MioListener::Tcp(listener) => listener.reregister(registry, token, interests),
+            MioListener::Uds(listener) => listener.reregister(registry, token, interests),
+        }
+    }
+
+    fn deregister(&mut self, registry: &Registry) -> io::Result<()> {
+        match self {
+            MioListener::Tcp(listener) => listener.deregister(registry),
+            MioListener::Uds(listener) => listener.deregister(registry),
+        }
+    }
+}
+
 // The listener fails once it has given so many.
 const MOST: u64 = (1 << 48) - 1;
+
+// Whether an accept may find a connection.
+fn may_accept(arrivals: &mut Option<Arrivals>) -> bool {
+    match arrivals {
+        Some(arrivals) => arrivals.may_accept(),
+        None => true,
+    }
+}
+
+// Puts down that an accept found none.
+fn note_refusal(arrivals: &mut Option<Arrivals>, refusal: Refusal) {
+    if let Some(arrivals) = arrivals
+        && let Refusal::NotYet = refusal
+    {
+        arrivals.note_none();
+    }
+}
+
+// A watch for a connection that was accepted. One without reads and writes at each poll.
+fn watch_of(arrivals: &Option<Arrivals>) -> Option<Watch> {
+    match arrivals {
+        Some(arrivals) => arrivals.watch().ok(),
+        None => None,
+    }
+}
 
 /// Connections that come to a socket which doesn't block (`mio::net::TcpListener`, `mio::net::UnixListener`). It never
 /// ends.
@@ -48,6 +110,7 @@ const MOST: u64 = (1 << 48) - 1;
 #[derive(Drop)]
 pub struct SocketListener {
     listener: MioListener,
+    arrivals: Option<Arrivals>,
     given: u64,
     waits: u64,
     skips: u64,
@@ -75,11 +138,21 @@ impl SocketListener {
     {
         SocketListener {
             listener,
+            arrivals: None,
             given: 0,
             waits: 0,
             skips: 0,
             faults: 0,
         }
+    }
+
+    /// The same listener. The reactor tells it when connections have come, and tells its links when bytes have.
+    pub fn over(self, reactor: Arc<Reactor>) -> io::Result<SocketListener>
+        ensures given { IfOk result (λ listener. ⟦<SocketListener as Listener>⟧.given listener ≡ ⟦<SocketListener as Listener>⟧.given self) }
+    {
+        let mut listener = self;
+        listener.arrivals = Some(Arrivals::new(reactor, &mut listener.listener)?);
+        Ok(listener)
     }
 
     /// Where it listens, of a TCP listener (`std::net::TcpListener::local_addr`).
@@ -149,12 +222,19 @@ impl Listener for SocketListener {
             self.faults = self.faults.saturating_add(1);
             return Accepted::Failed;
         }
+        if !may_accept(&mut self.arrivals) {
+            return self.tell_refusal(Refusal::NotYet);
+        }
         match self.listener.accept() {
             Ok((stream, peer)) => {
                 self.given += 1;
-                Accepted::Got(SocketLink::new(stream, peer))
+                Accepted::Got(SocketLink::new(stream, peer, watch_of(&self.arrivals)))
             }
-            Err(error) => self.tell_refusal(refusal_of(error.kind())),
+            Err(error) => {
+                let refusal = refusal_of(error.kind());
+                note_refusal(&mut self.arrivals, refusal);
+                self.tell_refusal(refusal)
+            }
         }
     }
 

@@ -34,9 +34,9 @@ same_weight : {L Fut : Type 0} (identity : L → Identity) (h : Card → ℕ →
 same_weight identity h w c serial token place given fresh = rw (serial, token, place, given, fresh)
 
 module _ {L Fut : Type 0} (identity : L → Identity) where
-  pub admits_none : (a b : Connections L Fut) → b.parcels ≡ a.parcels → b.notes ≡ a.notes → b.strays ≡ a.strays → b.owed ≡ a.owed → b.stopped ≡ a.stopped → b.told ≡ a.told
+  pub admits_none : (a b : Connections L Fut) → b.parcels ≡ a.parcels → b.notes ≡ a.notes → b.strays ≡ a.strays → b.owed ≡ a.owed → b.stopped ≡ a.stopped → b.forced ≡ a.forced → b.told ≡ a.told
       → b.live ≡ a.live → a.queue.items ≡ b.queue.items → Admits identity a b
-  admits_none a b parcels notes strays owed stopped told live queue = record {
+  admits_none a b parcels notes strays owed stopped forced told live queue = record {
     admitted = [];
     live = λ h. rw live (omega arith);
     queue = λ h. omega (arith, ap (sum_by (of_waiting identity h)) queue);
@@ -45,11 +45,12 @@ module _ {L Fut : Type 0} (identity : L → Identity) where
     strays = strays;
     owed = owed;
     stopped = stopped;
+    forced = forced;
     told_ready = told;
   }
 
   pub admits_same : (a : Connections L Fut) → Admits identity a a
-  admits_same a = admits_none a a refl refl refl refl refl refl refl refl
+  admits_same a = admits_none a a refl refl refl refl refl refl refl refl refl
 
   pub admits_trans : {a b c : Connections L Fut} → Admits identity a b → Admits identity b c → Admits identity a c
   admits_trans p q = record {
@@ -61,11 +62,12 @@ module _ {L Fut : Type 0} (identity : L → Identity) where
     strays = q.strays ∙ p.strays;
     owed = q.owed ∙ p.owed;
     stopped = q.stopped ∙ p.stopped;
+    forced = q.forced ∙ p.forced;
     told_ready = q.told_ready ∙ p.told_ready;
   }
 
   module _ (a b : Connections L Fut) (w : Waiting L) (c : Live L Fut)
-      (parcels : b.parcels ≡ a.parcels) (notes : b.notes ≡ a.notes) (strays : b.strays ≡ a.strays) (owed : b.owed ≡ a.owed) (stopped : b.stopped ≡ a.stopped) (told : b.told ≡ a.told)
+      (parcels : b.parcels ≡ a.parcels) (notes : b.notes ≡ a.notes) (strays : b.strays ≡ a.strays) (owed : b.owed ≡ a.owed) (stopped : b.stopped ≡ a.stopped) (forced : b.forced ≡ a.forced) (told : b.told ≡ a.told)
       (queue : a.queue.items ≡ w ∷ b.queue.items) (live : b.live.items ≡ a.live.items ++ c ∷ [])
       (serial : c.serial ≡ w.serial) (token : c.token ≡ w.token) (place : c.place ≡ w.place) (given : c.given.value ≡ w.link) where
     abbrev the_card : Card
@@ -84,6 +86,7 @@ module _ {L Fut : Type 0} (identity : L → Identity) where
       strays = strays;
       owed = owed;
       stopped = stopped;
+      forced = forced;
       told_ready = told;
     }
 
@@ -95,6 +98,8 @@ module _ {L Fut : Type 0} (identity : L → Identity) where
       live = rw (parcels, live) (All-push (Lives g may_stand may_serve may_leave (received a.parcels)) a.live.items c sound.live
           (rw (serial, token, place, given) (All-head (WaitsFor listeners (received a.parcels)) w b.queue.items waits).1, serves));
       owed = rw (parcels, owed) sound.owed;
+      stop = rw (parcels, stopped) sound.stop;
+      force = rw (parcels, forced) sound.force;
     }
       where
         waits : All (WaitsFor listeners (received a.parcels)) (w ∷ b.queue.items)

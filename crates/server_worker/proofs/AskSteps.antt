@@ -1,6 +1,6 @@
 -- One service more was asked.
 use Rattle.std.proofs.Common.{◌≡◌, Bool, true, false, ◌<◌, ◌⊎◌, ℕ, suc, ◌+◌, ◌++◌, ◌∷◌, [], List, length, refl, sym, ◌∙◌, ap, arith, subst, inl, inr}
-use Rattle.std.specs.Prelude.{cond}
+use Rattle.std.specs.Prelude.{◌&&◌, cond, not}
 use Rattle.std.proofs.lemmas.Bool.{cases_eq}
 use Rattle.std.proofs.lemmas.List.{get_or-set_other, get_or-set_same, length_push}
 use Rattle.futures.specs.declared.task.Poll.TheVariants.{Pending as PollPending}
@@ -66,6 +66,16 @@ module _ {E : Type 0} (may_ready : ℕ → Readiness E → Type 0) where
   -- none was asked where not all services stand
   pub asks_unmade : (a b : Worker) (made : Bool) (n : ℕ) → b ≡ a → made ≡ false → AsksUpTo may_ready a b (cond made n 0)
   asks_unmade a b made n is unmade = subst (λ m. AsksUpTo may_ready a b (cond m n 0)) (sym unmade) (subst (λ w. AsksUpTo may_ready a w 0) (sym is) (asks_none a))
+
+  -- where it took no stop, it asks once its services stand
+  pub asks_asking : (a b : Worker) (made stopped : Bool) (n : ℕ) → stopped ≡ false → AsksUpTo may_ready a b (cond made n 0) → AsksUpTo may_ready a b (cond (made && not stopped) n 0)
+  asks_asking a b true stopped n unstopped asks = subst (λ s. AsksUpTo may_ready a b (cond (true && not s) n 0)) (sym unstopped) asks
+  asks_asking a b false stopped n unstopped asks = asks
+
+  -- where it took one, it asks none
+  pub asks_stopped : (a b : Worker) (made stopped : Bool) (n : ℕ) → b ≡ a → stopped ≡ true → AsksUpTo may_ready a b (cond (made && not stopped) n 0)
+  asks_stopped a b true stopped n is stop = subst (λ s. AsksUpTo may_ready a b (cond (true && not s) n 0)) (sym stop) (asks_unmade a b false n is refl)
+  asks_stopped a b false stopped n is stop = asks_unmade a b false n is refl
 
 -- a mark that says what does not hold is not set
 pub is_unset : (mark : Bool) (P : Type 0) → (mark ≡ true → P) → (P → ⊥) → mark ≡ false

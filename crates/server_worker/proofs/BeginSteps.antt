@@ -1,5 +1,5 @@
 -- The making of the first services was begun.
-use Rattle.std.proofs.Common.{◌≡◌, ◌<◌, zero, suc, ℕ, ◌++◌, ◌∷◌, [], List, length, IfSome, slice_get, true, false, Result, Ok, Err, sym, ◌∙◌, ap, arith, subst}
+use Rattle.std.proofs.Common.{◌≡◌, ◌<◌, zero, suc, ℕ, ◌++◌, ◌∷◌, [], List, length, IfSome, slice_get, true, false, true≢false, Result, Ok, Err, sym, ◌∙◌, ap, arith, subst}
 use Rattle.std.proofs.lemmas.List.{get_or-replicate, length-replicate}
 use Rattle.service_core.specs.Making.{Makes}
 use Rattle.service_core.specs.Meaning.{Readiness}
@@ -54,6 +54,8 @@ works_new mg sg g may_stand may_serve may_leave may_ready may_init may_make s ha
     strays = rw fresh.strays (All-nil (Strays (length s.slots.items) (received hand.parcels)));
     live = rw fresh.live (All-nil (Lives g may_stand may_serve may_leave (received hand.parcels)));
     owed = rw fresh.owed (All-nil (IsTold may_serve may_leave may_make (length s.slots.items) (received hand.parcels)));
+    stop = λ is. absurd (true≢false (sym is ∙ fresh.stopped));
+    force = λ is. absurd (true≢false (sym is ∙ fresh.forced));
   };
   slots = slots;
   made = λ all. absurd (let e : true ≡ false = sym all ∙ made in cc);

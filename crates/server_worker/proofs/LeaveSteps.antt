@@ -22,7 +22,7 @@ use Rattle.server_worker.specs.Leaving.{Gathers, HasStayed, Leaves, Runs, Unqueu
 use Rattle.server_worker.specs.Polled.{OwesMore}
 use Rattle.server_worker.specs.Posted.{Posts}
 use Rattle.server_worker.specs.Sound.{IsSound, IsTold, Lives, Waits}
-use Rattle.server_worker.specs.Taken.{is_stop}
+use Rattle.server_worker.specs.Stops.{is_force, is_stop}
 use Rattle.server_worker.specs.Telling.{TellsFault, newly}
 use Rattle.server_worker.specs.declared.connections.Connections.{Connections}
 use Rattle.server_worker.specs.declared.live.Live.{Live}
@@ -30,7 +30,7 @@ use Rattle.server_worker.proofs.Accounting.{accounts_trans}
 use Rattle.server_worker.proofs.ServeSteps.{all_left, all_right}
 use Rattle.server_worker.proofs.TakeSteps.{or_none, or_twice, told_onward}
 
-same_card : {L Fut : Type 0} (identity : L → Identity) (h : Card → ℕ) (w : Waiting L) (c : Live L Fut)
+pub same_card : {L Fut : Type 0} (identity : L → Identity) (h : Card → ℕ) (w : Waiting L) (c : Live L Fut)
     → w.serial ≡ c.serial → w.token ≡ c.token → w.place ≡ c.place → identity w.link ≡ identity c.given.value → of_waiting identity h w ≡ of_live identity h c
 same_card identity h w c serial token place same = rw (serial, token, place, same)
 
@@ -127,7 +127,7 @@ module _ {L Fut : Type 0} (identity : L → Identity) (may_serve : ℕ → L →
   pub runs_none : (a : Connections L Fut) → Runs identity may_serve may_leave may_make listeners a a
   runs_none a = record {
     accounts = record { parcels = ((refl, refl, refl, refl), refl); notes = ((refl, refl, refl, refl), refl); once = λ h. refl };
-    receives = record { more = []; came = sym (append-nil _); stopped = or_none a.stopped };
+    receives = record { more = []; came = sym (append-nil _); stopped = or_none a.stopped; forced = or_none a.forced };
     tells = record { more = []; appended = sym (append-nil _); told = λ i d inside. absurd (omega arith) };
   }
 
@@ -139,6 +139,8 @@ module _ {L Fut : Type 0} (identity : L → Identity) (may_serve : ℕ → L →
       came = q.receives.came ∙ ap (λ xs. xs ++ q.receives.more) p.receives.came ∙ append_assoc _ p.receives.more q.receives.more;
       stopped = q.receives.stopped ∙ ap (λ s. s || list_any is_stop q.receives.more) p.receives.stopped ∙ or_twice a.stopped (list_any is_stop p.receives.more) (list_any is_stop q.receives.more)
           ∙ ap (λ s. a.stopped || s) (sym (list_any-append is_stop p.receives.more q.receives.more));
+      forced = q.receives.forced ∙ ap (λ s. s || list_any is_force q.receives.more) p.receives.forced ∙ or_twice a.forced (list_any is_force p.receives.more) (list_any is_force q.receives.more)
+          ∙ ap (λ s. a.forced || s) (sym (list_any-append is_force p.receives.more q.receives.more));
     };
     tells = record {
       more = p.tells.more ++ q.tells.more;
@@ -169,7 +171,7 @@ module _ {L Fut : Type 0} (identity : L → Identity) (may_serve : ℕ → L →
             let o = ap (sum_by (of_note identity h)) posts.kept in
             omega (arith, owes.once h, n, q, s, p, l, k, o, sum_by-append (of_note identity h) (sent m.notes) posts.more, sum_by-append (of_note identity h) posts.more b.owed.items);
       };
-      receives = record { more = []; came = ap (λ p. received p) (posts.parcels ∙ owes.parcels) ∙ sym (append-nil _); stopped = posts.stopped ∙ owes.stopped ∙ or_none a.stopped };
+      receives = record { more = []; came = ap (λ p. received p) (posts.parcels ∙ owes.parcels) ∙ sym (append-nil _); stopped = posts.stopped ∙ owes.stopped ∙ or_none a.stopped; forced = posts.forced ∙ owes.forced ∙ or_none a.forced };
       tells = record {
         more = posts.more;
         appended = posts.appended ∙ ap (λ n. sent n ++ posts.more) owes.notes;
@@ -179,6 +181,8 @@ module _ {L Fut : Type 0} (identity : L → Identity) (may_serve : ℕ → L →
 
     pub fault_sound : IsSound g may_stand may_serve may_leave may_make listeners b
     fault_sound = record {
+      stop = rw (posts.parcels, posts.stopped, owes.parcels, owes.stopped) sound.stop;
+      force = rw (posts.parcels, posts.forced, owes.parcels, owes.forced) sound.force;
       queue = rw (posts.parcels, posts.queue, owes.parcels, owes.queue) sound.queue;
       strays = rw (posts.parcels, posts.strays, owes.parcels, owes.strays) sound.strays;
       live = rw (posts.parcels, posts.live, owes.parcels, owes.live) sound.live;

@@ -9,5 +9,8 @@ pub mod Places
 pub mod PollSteps
 pub mod PostSteps
 pub mod ServeSteps
+pub mod StopSteps
+pub mod StopTurns
+pub mod StopWords
 pub mod TakeSteps
 pub mod WorkSteps

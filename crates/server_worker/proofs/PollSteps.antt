@@ -1,5 +1,5 @@
 -- One live connection more is polled.
-use Rattle.std.proofs.Common.{◌≡◌, ◌<◌, ℕ, ◌+◌, [], ◌∷◌, ◌++◌, length, take, drop, set, get_or, sum_by, Contains, Result, refl, sym, ◌∙◌, ap, arith, subst}
+use Rattle.std.proofs.Common.{◌≡◌, false, true≢false, ◌<◌, ℕ, ◌+◌, [], ◌∷◌, ◌++◌, length, take, drop, set, get_or, sum_by, Contains, Result, refl, sym, ◌∙◌, ap, arith, subst}
 use Rattle.std.specs.List.{swap_remove}
 use Rattle.std.proofs.Math.ListN.{length-set}
 use Rattle.std.proofs.lemmas.List.{take-set, drop_all}
@@ -12,6 +12,7 @@ use Rattle.service_core.specs.Link.{Identity}
 use Rattle.service_core.specs.Shown.{wait_count}
 use Rattle.service_core.specs.declared.ended.Ended.{Ended}
 use Rattle.server_run.specs.Delivery.{ComesBack}
+use Rattle.server_run.specs.Outcome.{is_stopped}
 use Rattle.server_jobs.specs.Cards.{Card, of_note}
 use Rattle.server_worker.specs.Ending.{EndsAt, IsSameConnection, entry_of}
 use Rattle.server_worker.specs.Polled.{PolledFrom, as_it_is, once_polled, card_of}
@@ -21,6 +22,7 @@ use Rattle.server_worker.specs.declared.finished.Finished.{Finished}
 use Rattle.server_worker.specs.declared.live.Live.{Live}
 use Rattle.server_jobs.specs.declared.parcel.Parcel.TheVariants.{Conn}
 use Rattle.server_jobs.specs.declared.note.Note.TheVariants.{Back}
+use Rattle.server_worker.proofs.StopWords.{forced_stopped}
 use Rattle.server_worker.proofs.Places.{all_removed, length_removed, removed_before, removed_set, sum_from_removed, sum_from_set}
 
 -- none was polled yet
@@ -39,6 +41,7 @@ polled_none g may_stand may_serve may_leave may_make listeners identity a at is 
   queue = refl;
   strays = refl;
   stopped = refl;
+  forced = refl;
   told_ready = refl;
 }
   where
@@ -64,14 +67,16 @@ module _ {L E Fut : Type 0} (g : FutureOf Fut (Result (Ended L) E)) (may_stand :
 
   -- it was pending
   pub polled_pending : (b : Connections L Fut) → Serves g may_stand may_serve may_leave d → wait_count d.future ≡ risen (wait_count c.future)
-      → b.live.items ≡ set a.live.items at d → b.owed ≡ a.owed → b.parcels ≡ a.parcels → b.notes ≡ a.notes → b.queue ≡ a.queue → b.strays ≡ a.strays → b.stopped ≡ a.stopped → b.told ≡ a.told
+      → b.live.items ≡ set a.live.items at d → b.owed ≡ a.owed → b.parcels ≡ a.parcels → b.notes ≡ a.notes → b.queue ≡ a.queue → b.strays ≡ a.strays → b.stopped ≡ a.stopped → b.forced ≡ a.forced → b.told ≡ a.told
       → PolledFrom g may_stand may_serve may_leave may_make listeners identity first b at
-  polled_pending b serves waits live owed parcels notes queue strays stopped told = record {
+  polled_pending b serves waits live owed parcels notes queue strays stopped forced told = record {
     sound = record {
       queue = rw (parcels, queue) so_far.sound.queue;
       strays = rw (parcels, strays) so_far.sound.strays;
       live = rw (parcels, live) (All-set (Lives g may_stand may_serve may_leave (received a.parcels)) a.live.items at d (came_same, serves) so_far.sound.live);
       owed = rw (parcels, owed) so_far.sound.owed;
+      stop = rw (parcels, stopped) so_far.sound.stop;
+      force = rw (parcels, forced) so_far.sound.force;
     };
     within = rw live (let l = length-set a.live.items at d in omega arith);
     ended = so_far.ended;
@@ -85,21 +90,24 @@ module _ {L E Fut : Type 0} (g : FutureOf Fut (Result (Ended L) E)) (may_stand :
     queue = queue ∙ so_far.queue;
     strays = strays ∙ so_far.strays;
     stopped = stopped ∙ so_far.stopped;
+    forced = forced ∙ so_far.forced;
     told_ready = told ∙ so_far.told_ready;
   }
 
   -- it ended
   pub polled_ended : (m b : Connections L Fut) (f : Finished L)
-      → m.live.items ≡ set a.live.items at d → m.owed ≡ a.owed → m.parcels ≡ a.parcels → m.notes ≡ a.notes → m.queue ≡ a.queue → m.strays ≡ a.strays → m.stopped ≡ a.stopped → m.told ≡ a.told
+      → m.live.items ≡ set a.live.items at d → m.owed ≡ a.owed → m.parcels ≡ a.parcels → m.notes ≡ a.notes → m.queue ≡ a.queue → m.strays ≡ a.strays → m.stopped ≡ a.stopped → m.forced ≡ a.forced → m.told ≡ a.told
       → EndsAt m b at d f
-      → ComesBack (may_serve c.token) (may_leave c.token) c.given.value f.link f.outcome → identity f.link ≡ identity c.given.value
+      → ComesBack (may_serve c.token) (may_leave c.token) c.given.value f.link f.outcome → is_stopped f.outcome ≡ false → identity f.link ≡ identity c.given.value
       → PolledFrom g may_stand may_serve may_leave may_make listeners identity first b at
-  polled_ended m b f live owed parcels notes queue strays stopped told ends back is = record {
+  polled_ended m b f live owed parcels notes queue strays stopped forced told ends back ended is = record {
     sound = record {
       queue = rw (ends.parcels, ends.queue, parcels, queue) so_far.sound.queue;
       strays = rw (ends.parcels, ends.strays, parcels, strays) so_far.sound.strays;
       live = rw (ends.parcels, parcels, items) (all_removed (Lives g may_stand may_serve may_leave (received a.parcels)) a.live.items at c inside so_far.sound.live);
       owed = rw (ends.parcels, ends.owed, parcels, owed) (All-push (IsTold may_serve may_leave may_make listeners (received a.parcels)) a.owed.items (Back (entry_of d f)) so_far.sound.owed answer);
+      stop = rw (ends.parcels, ends.stopped, parcels, stopped) so_far.sound.stop;
+      force = rw (ends.parcels, ends.forced, parcels, forced) so_far.sound.force;
     };
     within = rw items (omega (arith, length_removed a.live.items at c inside));
     ended = so_far.ended ++ (card_of identity c, risen (wait_count c.future)) ∷ [];
@@ -109,12 +117,13 @@ module _ {L E Fut : Type 0} (g : FutureOf Fut (Result (Ended L) E)) (may_stand :
         omega (arith, so_far.told h, sum_by_push (of_note identity h) a.owed.items (Back (entry_of d f)), weight, sum_by_push (λ (e : Card × ℕ). h e.0) so_far.ended (card_of identity c, risen (wait_count c.future))));
     signals = λ weigh nothing.
         let o = ap (λ q. sum_by weigh q.items) owed in
-        omega (arith, ap (sum_by weigh) ends.owed, sum_by_push weigh m.owed.items (Back (entry_of d f)), nothing (entry_of d f), o, so_far.signals weigh nothing);
+        omega (arith, ap (sum_by weigh) ends.owed, sum_by_push weigh m.owed.items (Back (entry_of d f)), nothing (entry_of d f) ended, o, so_far.signals weigh nothing);
     parcels = ends.parcels ∙ parcels ∙ so_far.parcels;
     notes = ends.notes ∙ notes ∙ so_far.notes;
     queue = ends.queue ∙ queue ∙ so_far.queue;
     strays = ends.strays ∙ strays ∙ so_far.strays;
     stopped = ends.stopped ∙ stopped ∙ so_far.stopped;
+    forced = ends.forced ∙ forced ∙ so_far.forced;
     told_ready = ends.told_ready ∙ told ∙ so_far.told_ready;
   }
     where
@@ -122,4 +131,4 @@ module _ {L E Fut : Type 0} (g : FutureOf Fut (Result (Ended L) E)) (may_stand :
       items = ends.live ∙ ap (λ xs. swap_remove xs at d) live ∙ removed_set a.live.items at c d inside
 
       answer : Answers may_serve may_leave (received a.parcels) (entry_of d f)
-      answer = record { link = d.given.value; came = came_same; comes_back = rw (same.token, same.given) back }
+      answer = record { link = d.given.value; came = came_same; comes_back = rw (same.token, same.given) back; stop = λ is. absurd (true≢false (sym is ∙ ended)); force = λ is. absurd (true≢false (sym (forced_stopped f.outcome is) ∙ ended)) }

@@ -15,6 +15,7 @@ posts_none a = record {
   strays = refl;
   live = refl;
   stopped = refl;
+  forced = refl;
   told_ready = refl;
 }
 
@@ -29,5 +30,6 @@ posts_trans p q = record {
   strays = q.strays ∙ p.strays;
   live = q.live ∙ p.live;
   stopped = q.stopped ∙ p.stopped;
+  forced = q.forced ∙ p.forced;
   told_ready = q.told_ready ∙ p.told_ready;
 }

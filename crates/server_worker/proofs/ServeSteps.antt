@@ -14,11 +14,12 @@ use Rattle.server_worker.specs.Polled.{Admits, OwesMore, PolledFrom, PollsLive, 
 use Rattle.server_worker.specs.Posted.{Posts}
 use Rattle.server_worker.specs.Sound.{IsSound, IsTold, Tells}
 use Rattle.server_worker.specs.Standing.{AllMade}
-use Rattle.server_worker.specs.Taken.{Takes}
+use Rattle.server_worker.specs.Stopping.{of_stop, told_as}
 use Rattle.server_worker.specs.declared.connections.Connections.{Connections}
 use Rattle.server_worker.specs.declared.slot.Slot.{Slot}
 use Rattle.server_jobs.specs.declared.note.Note.TheVariants.{Ready}
 use Rattle.server_worker.proofs.Accounting.{accounts_trans}
+use Rattle.server_worker.proofs.StopWords.{ended_weighs}
 
 pub all_left : {X : Type 0} (P : X → Type 0) (xs ys : List X) → All P (xs ++ ys) → All P xs
 all_left P [] ys all = All-nil P
@@ -62,9 +63,14 @@ module _ {L E Fut : Type 0} (g : FutureOf Fut (Result (Ended L) E)) (may_stand :
   serves_no_ready = record {
     count = λ f nothing.
         let n = ap (λ p. sum_by f (sent p)) polled.notes in
-        omega (arith, polled.signals f nothing, n, ap (sum_by f) posts.appended, ap (sum_by f) posts.kept, sum_by-append f (sent m.notes) posts.more, sum_by-append f posts.more b.owed.items);
+        omega (arith, polled.signals f (λ e ended. nothing e), n, ap (sum_by f) posts.appended, ap (sum_by f) posts.kept, sum_by-append f (sent m.notes) posts.more, sum_by-append f posts.more b.owed.items);
     told = posts.told_ready ∙ polled.told_ready;
   }
+
+  pub serves_stops : (forced : Bool) (h : Card → ℕ) → told_as identity forced h b ≡ told_as identity forced h a
+  serves_stops forced h =
+      let n = ap (λ p. sum_by (of_stop identity forced h) (sent p)) polled.notes in
+      omega (arith, polled.signals (of_stop identity forced h) (λ e ended. ended_weighs forced _ e.outcome ended), n, ap (sum_by (of_stop identity forced h)) posts.appended, ap (sum_by (of_stop identity forced h)) posts.kept, sum_by-append (of_stop identity forced h) (sent m.notes) posts.more, sum_by-append (of_stop identity forced h) posts.more b.owed.items)
 
   pub serves_tells : Tells may_serve may_leave may_make listeners a b
   serves_tells = record {
@@ -81,59 +87,59 @@ module _ {L E Fut : Type 0} (g : FutureOf Fut (Result (Ended L) E)) (may_stand :
     queue = rw (posts.parcels, posts.queue) polled.sound.queue;
     strays = rw (posts.parcels, posts.strays) polled.sound.strays;
     live = rw (posts.parcels, posts.live) polled.sound.live;
+    stop = rw (posts.parcels, posts.stopped) polled.sound.stop;
+    force = rw (posts.parcels, posts.forced) polled.sound.force;
     owed = all_right (IsTold may_serve may_leave may_make listeners (received b.parcels)) posts.more b.owed.items told;
   }
     where
       told : All (IsTold may_serve may_leave may_make listeners (received b.parcels)) (posts.more ++ b.owed.items)
       told = rw posts.parcels (subst (All (IsTold may_serve may_leave may_make listeners (received m.parcels))) posts.kept polled.sound.owed)
 
-newly_same : (n : ℕ) (b : Bool) → newly n b b ≡ 0
+pub newly_same : (n : ℕ) (b : Bool) → newly n b b ≡ 0
 newly_same n true = refl
 newly_same n false = refl
 
-module _ {L Fut MFut S : Type 0} (listeners : ℕ) (slots : List (Slot MFut S)) where
+pub newly_none : (a b : Bool) → newly 0 a b ≡ 0
+newly_none true b = refl
+newly_none false true = refl
+newly_none false false = refl
+
+module _ {L Fut MFut S : Type 0} (slots : List (Slot MFut S)) where
   -- that all services stand was told by what is owed, or was told before, or is not told
-  pub turn_ready : {identity : L → Identity} (a b c d e : Connections L Fut) → Takes listeners a b → Admits identity b c → OwesMore identity Ready c d → TellsNoReady d e
-      → (c.told ≡ false → d.told ≡ true → AllMade slots) → TellsReady slots a e
-  turn_ready a b c d e takes admits owes none stand = record {
+  pub turn_ready : {identity : L → Identity} (b c d e : Connections L Fut) → Admits identity b c → OwesMore identity Ready c d → TellsNoReady d e
+      → (c.told ≡ false → d.told ≡ true → AllMade slots) → TellsReady slots b e
+  turn_ready b c d e admits owes none stand = record {
     once = λ f nothing.
-        let n = ap (λ p. sum_by f (sent p)) (owes.notes ∙ admits.notes ∙ takes.notes) in
+        let n = ap (λ p. sum_by f (sent p)) (owes.notes ∙ admits.notes) in
         let o = ap (λ q. sum_by f q.items) admits.owed in
-        let t = ap (sum_by f) takes.owed in
         let m = ap (λ x. newly (f Ready) x d.told) same in
-        let k = ap (λ x. newly (f Ready) a.told x) none.told in
-        omega (arith, none.count f nothing, owes.signals f, n, o, t, m, k);
+        let k = ap (λ x. newly (f Ready) b.told x) none.told in
+        omega (arith, none.count f nothing, owes.signals f, n, o, m, k);
     stays = λ was. none.told ∙ owes.told_ready (same ∙ was);
     stand = λ was is. stand (same ∙ was) (sym none.told ∙ is);
   }
     where
-      same : c.told ≡ a.told
-      same = admits.told_ready ∙ takes.told_ready
+      same : c.told ≡ b.told
+      same = admits.told_ready
 
   -- nothing of it was told
-  pub turn_no_ready : (a b e : Connections L Fut) → Takes listeners a b → TellsNoReady b e → TellsReady slots a e
-  turn_no_ready a b e takes none = record {
+  pub turn_no_ready : (b e : Connections L Fut) → TellsNoReady b e → TellsReady slots b e
+  turn_no_ready b e none = record {
     once = λ f nothing.
-        let n = ap (λ p. sum_by f (sent p)) takes.notes in
-        let t = ap (sum_by f) takes.owed in
-        let m = ap (λ x. newly (f Ready) a.told x) same in
-        omega (arith, none.count f nothing, n, t, m, newly_same (f Ready) a.told);
-    stays = λ was. same ∙ was;
-    stand = λ was is. absurd (true≢false (sym is ∙ same ∙ was));
+        let m = ap (λ x. newly (f Ready) b.told x) none.told in
+        omega (arith, none.count f nothing, m, newly_same (f Ready) b.told);
+    stays = λ was. none.told ∙ was;
+    stand = λ was is. absurd (true≢false (sym is ∙ none.told ∙ was));
   }
-    where
-      same : e.told ≡ a.told
-      same = none.told ∙ takes.told_ready
 
--- a whole turn: what came was taken, those that may were admitted, a note may be owed, and the live ones were polled
-module _ {L Fut : Type 0} (identity : L → Identity) (listeners : ℕ) (a b c d e : Connections L Fut)
-    (accounts : Accounts identity a b) (takes : Takes listeners a b) (admits : Admits identity b c) (owes : OwesMore identity Ready c d) (served : Accounts identity d e) (polls : PollsLive identity d e) where
-  same_notes : (h : Card → ℕ) → handed identity h d ≡ handed identity h a
+-- those that may were admitted, a note may be owed, and the live ones were polled
+module _ {L Fut : Type 0} (identity : L → Identity) (b c d e : Connections L Fut)
+    (admits : Admits identity b c) (owes : OwesMore identity Ready c d) (served : Accounts identity d e) (polls : PollsLive identity d e) where
+  same_notes : (h : Card → ℕ) → handed identity h d ≡ handed identity h b
   same_notes h =
-      let n = ap (λ p. sum_by (of_note identity h) (sent p)) (owes.notes ∙ admits.notes ∙ takes.notes) in
+      let n = ap (λ p. sum_by (of_note identity h) (sent p)) (owes.notes ∙ admits.notes) in
       let o = ap (λ q. sum_by (of_note identity h) q.items) admits.owed in
-      let t = ap (sum_by (of_note identity h)) takes.owed in
-      omega (arith, owes.once h, n, o, t)
+      omega (arith, owes.once h, n, o)
 
   same_queue : (h : Card → ℕ) → queued identity h d + sum_by h admits.admitted ≡ queued identity h b
   same_queue h =
@@ -144,32 +150,30 @@ module _ {L Fut : Type 0} (identity : L → Identity) (listeners : ℕ) (a b c d
   same_parcels : (h : Card → ℕ) → sum_by (of_parcel identity h) (received d.parcels) ≡ sum_by (of_parcel identity h) (received b.parcels)
   same_parcels h = ap (λ p. sum_by (of_parcel identity h) (received p)) (owes.parcels ∙ admits.parcels)
 
-  live_by : (h : Card → ℕ → ℕ) → sum_by (as_it_is identity h) d.live.items ≡ sum_by (as_it_is identity h) a.live.items + sum_by (λ (k : Card). h k 0) admits.admitted
+  live_by : (h : Card → ℕ → ℕ) → sum_by (as_it_is identity h) d.live.items ≡ sum_by (as_it_is identity h) b.live.items + sum_by (λ (k : Card). h k 0) admits.admitted
   live_by h =
       let l = ap (λ l. sum_by (as_it_is identity h) l.items) owes.live in
-      let t = ap (sum_by (as_it_is identity h)) takes.live in
-      omega (arith, admits.live h, l, t)
+      omega (arith, admits.live h, l)
 
-  came_in : (h : Card → ℕ) → sum_by (of_parcel identity h) (received b.parcels) + queued identity h a ≡ sum_by (of_parcel identity h) (received a.parcels) + queued identity h b
-  came_in h =
-      let l = ap (sum_by (of_live identity h)) takes.live in
-      let o = ap (sum_by (of_note identity h)) takes.owed in
-      let n = ap (λ p. sum_by (of_note identity h) (sent p)) takes.notes in
-      omega (arith, accounts.once h, l, o, n)
+  pub turn_stops : (forced : Bool) (h : Card → ℕ) → told_as identity forced h e ≡ told_as identity forced h d → told_as identity forced h e ≡ told_as identity forced h b
+  turn_stops forced h same =
+      let n = ap (λ p. sum_by (of_stop identity forced h) (sent p)) (owes.notes ∙ admits.notes) in
+      let o = ap (λ q. sum_by (of_stop identity forced h) q.items) admits.owed in
+      omega (arith, same, owes.signals (of_stop identity forced h), newly_none c.told d.told, n, o)
 
-  pub turn_polls : PollsLive identity a e
+  pub turn_polls : PollsLive identity b e
   turn_polls = record {
     admitted = admits.admitted ++ polls.admitted;
     ended = polls.ended;
     once = λ h.
-        let l : sum_by (once_polled identity h) d.live.items ≡ sum_by (once_polled identity h) a.live.items + sum_by (λ (k : Card). h k 1) admits.admitted = live_by (λ k n. h k (risen n)) in
+        let l : sum_by (once_polled identity h) d.live.items ≡ sum_by (once_polled identity h) b.live.items + sum_by (λ (k : Card). h k 1) admits.admitted = live_by (λ k n. h k (risen n)) in
         omega (arith, l, polls.once h, sum_by-append (λ (k : Card). h k 1) admits.admitted polls.admitted);
-    came = λ h. omega (arith, came_in h, same_queue h, same_parcels h, polls.came h, sum_by-append h admits.admitted polls.admitted);
+    came = λ h. omega (arith, same_queue h, same_parcels h, polls.came h, sum_by-append h admits.admitted polls.admitted);
     told = λ h. omega (arith, same_notes h, polls.told h);
   }
 
-  pub turn_accounts : Accounts identity a e
-  turn_accounts = accounts_trans accounts (accounts_trans between served)
+  pub turn_accounts : Accounts identity b e
+  turn_accounts = accounts_trans between served
     where
       between : Accounts identity b d
       between = record {
@@ -178,7 +182,6 @@ module _ {L Fut : Type 0} (identity : L → Identity) (listeners : ℕ) (a b c d
         once = λ h.
             let n = ap (λ p. sum_by (of_note identity h) (sent p)) (owes.notes ∙ admits.notes) in
             let o = ap (λ q. sum_by (of_note identity h) q.items) admits.owed in
-            let l : sum_by (of_live identity h) d.live.items ≡ sum_by (of_live identity h) a.live.items + sum_by h admits.admitted = live_by (λ k n. h k) in
-            let t = ap (sum_by (of_live identity h)) takes.live in
-            omega (arith, same_queue h, same_parcels h, owes.once h, n, o, l, t);
+            let l : sum_by (of_live identity h) d.live.items ≡ sum_by (of_live identity h) b.live.items + sum_by h admits.admitted = live_by (λ k n. h k) in
+            omega (arith, same_queue h, same_parcels h, owes.once h, n, o, l);
       }

@@ -1,5 +1,5 @@
 -- What a worker is stays so through the steps of a turn.
-use Rattle.std.proofs.Common.{◌≡◌, ◌<◌, ◌++◌, ◌∷◌, [], ℕ, List, Result, length, true, Option, Some, None, IfSome, slice_get, sym, ◌∙◌, arith, subst}
+use Rattle.std.proofs.Common.{◌≡◌, ◌<◌, ◌++◌, ◌∷◌, [], ℕ, List, Result, length, true, Option, Some, None, IfSome, slice_get, sym, ap, ◌∙◌, arith, subst}
 use Rattle.std.proofs.lemmas.List.Elements.{All-push}
 use Rattle.futures.specs.declared.future.Future.{Ghosts as FutureOf}
 use Rattle.rtrb.specs.Ring.{received}
@@ -36,15 +36,17 @@ module _ {L S E I Fut MFut : Type 0} (mg : FutureOf MFut (Result S I)) (sg : Ser
   makes_slot token (Some (Made s)) is made = is.0
 
   -- the note that all services stand is true, and may be owed
-  pub works_ready : {Fac : Type 0} (s : Services Fac MFut S) (a b : Connections L Fut) → s.made ≡ true → b.owed.items ≡ a.owed.items ++ Ready ∷ [] → b.parcels ≡ a.parcels → b.queue ≡ a.queue → b.strays ≡ a.strays → b.live ≡ a.live
+  pub works_ready : {Fac : Type 0} (s : Services Fac MFut S) (a b : Connections L Fut) → s.made ≡ true → b.owed.items ≡ a.owed.items ++ Ready ∷ [] → b.parcels ≡ a.parcels → b.queue ≡ a.queue → b.strays ≡ a.strays → b.live ≡ a.live → b.stopped ≡ a.stopped → b.forced ≡ a.forced
       → Works mg sg g may_stand may_serve may_leave may_ready may_init may_make s a → Works mg sg g may_stand may_serve may_leave may_ready may_init may_make s b
-  works_ready s a b made owed parcels queue strays live works = record {
+  works_ready s a b made owed parcels queue strays live stopped forced works = record {
     connections = record {
       queue = rw (parcels, queue) works.connections.queue;
       strays = rw (parcels, strays) works.connections.strays;
       live = rw (parcels, live) works.connections.live;
       owed = rw (parcels, owed) (All-push (IsTold may_serve may_leave may_make (length s.slots.items) (received a.parcels)) a.owed.items Ready works.connections.owed
           (λ token inside. makes_slot token (slice_get s.slots.items token) (works.slots token) (works.made made token inside)));
+      stop = rw (parcels, stopped) works.connections.stop;
+      force = rw (parcels, forced) works.connections.force;
     };
     slots = works.slots;
     made = works.made;
@@ -56,13 +58,26 @@ module _ {L S E I Fut MFut : Type 0} (mg : FutureOf MFut (Result S I)) (sg : Ser
   sound_of_more a b n m k is too takes sound = subst (λ i. IsSound g may_stand may_serve may_leave may_make i b) (is ∙ sym too)
       (sound_taken g may_stand may_serve may_leave may_make m a b takes (subst (λ i. IsSound g may_stand may_serve may_leave may_make i a) (sym is) sound))
 
-  pub works_made : {Fac : Type 0} (s t : Services Fac MFut S) (a b : Connections L Fut) (m : ℕ) → m ≡ length s.slots.items → length t.slots.items ≡ length s.slots.items → t.made ≡ s.made
+  pub sound_of_many : (a : Connections L Fut) (n k : ℕ) → k ≡ n → IsSound g may_stand may_serve may_leave may_make n a → IsSound g may_stand may_serve may_leave may_make k a
+  sound_of_many a n k many sound = subst (λ i. IsSound g may_stand may_serve may_leave may_make i a) (sym many) sound
+
+  pub works_made : {Fac : Type 0} (s t : Services Fac MFut S) (a : Connections L Fut) → length t.slots.items ≡ length s.slots.items → t.made ≡ s.made
       → ((k : ℕ) → k < length t.slots.items → AtSlot MadeOrWaits (slice_get s.slots.items k) (slice_get t.slots.items k))
-      → AreSlots mg sg may_stand may_serve may_leave may_ready may_init may_make t.slots.items → Takes m a b
-      → Works mg sg g may_stand may_serve may_leave may_ready may_init may_make s a → Works mg sg g may_stand may_serve may_leave may_ready may_init may_make t b
-  works_made s t a b m is many made waits slots takes works = record {
-    connections = sound_of_more a b (length s.slots.items) m (length t.slots.items) is many takes works.connections;
+      → AreSlots mg sg may_stand may_serve may_leave may_ready may_init may_make t.slots.items
+      → Works mg sg g may_stand may_serve may_leave may_ready may_init may_make s a → Works mg sg g may_stand may_serve may_leave may_ready may_init may_make t a
+  works_made s t a many made waits slots works = record {
+    connections = sound_of_many a (length s.slots.items) (length t.slots.items) many works.connections;
     slots = slots;
     made = λ all. all_stay_made s.slots.items t.slots.items many waits (works.made (sym made ∙ all));
+    told = λ is. made ∙ works.told is;
+  }
+
+  -- connections were taken
+  pub works_taken : {Fac : Type 0} (s t : Services Fac MFut S) (a b : Connections L Fut) (m : ℕ) → m ≡ length s.slots.items → t.slots.items ≡ s.slots.items → t.made ≡ s.made → Takes m a b
+      → Works mg sg g may_stand may_serve may_leave may_ready may_init may_make s a → Works mg sg g may_stand may_serve may_leave may_ready may_init may_make t b
+  works_taken s t a b m is slots made takes works = record {
+    connections = sound_of_more a b (length s.slots.items) m (length t.slots.items) is (ap length slots) takes works.connections;
+    slots = rw slots works.slots;
+    made = λ all. rw slots (works.made (sym made ∙ all));
     told = λ is. made ∙ works.told (sym takes.told_ready ∙ is);
   }

@@ -25,4 +25,5 @@ pub record EndsAt {L Fut : Type 0} (a b : Connections L Fut) (at : ℕ) (c : Liv
   pub queue : b.queue ≡ a.queue
   pub strays : b.strays ≡ a.strays
   pub stopped : b.stopped ≡ a.stopped
+  pub forced : b.forced ≡ a.forced
   pub told_ready : b.told ≡ a.told

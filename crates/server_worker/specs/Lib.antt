@@ -7,6 +7,8 @@ pub mod Posted
 pub mod Room
 pub mod Sound
 pub mod Standing
+pub mod Stopping
+pub mod Stops
 pub mod Taken
 pub mod Telling
 pub mod Turn

@@ -8,7 +8,7 @@ use Rattle.service_core.specs.Link.{Identity}
 use Rattle.service_core.specs.Shown.{wait_count}
 use Rattle.server_jobs.specs.Cards.{Card, card, of_note, of_parcel, of_waiting}
 use Rattle.server_jobs.specs.declared.note.Note.{Note}
-use Rattle.server_worker.specs.Telling.{WeighsSignals, newly}
+use Rattle.server_worker.specs.Telling.{WeighsNoEnd, newly}
 use Rattle.server_worker.specs.declared.connections.Connections.{Connections}
 use Rattle.rtrb.specs.Ring.{received, sent}
 use Rattle.server_worker.specs.declared.live.Live.{Live}
@@ -34,12 +34,13 @@ pub record PolledFrom {L E Fut : Type 0} (g : FutureOf Fut (Result (Ended L) E))
   pub once : (h : Card → ℕ → ℕ) → sum_by (once_polled identity h) (take at b.live.items) + (sum_by (as_it_is identity h) (drop at b.live.items) + sum_by (λ e. h e.0 e.1) ended)
       ≡ sum_by (once_polled identity h) a.live.items
   pub told : (h : Card → ℕ) → sum_by (of_note identity h) a.owed.items + sum_by (λ e. h e.0) ended ≡ sum_by (of_note identity h) b.owed.items
-  pub signals : (f : Note L → ℕ) → WeighsSignals f → sum_by f b.owed.items ≡ sum_by f a.owed.items
+  pub signals : (f : Note L → ℕ) → WeighsNoEnd f → sum_by f b.owed.items ≡ sum_by f a.owed.items
   pub parcels : b.parcels ≡ a.parcels
   pub notes : b.notes ≡ a.notes
   pub queue : b.queue ≡ a.queue
   pub strays : b.strays ≡ a.strays
   pub stopped : b.stopped ≡ a.stopped
+  pub forced : b.forced ≡ a.forced
   pub told_ready : b.told ≡ a.told
 
 -- Connections went from the queue to the live ones, each once, and none of them was polled yet.
@@ -52,6 +53,7 @@ pub record Admits {L Fut : Type 0} (identity : L → Identity) (a b : Connection
   pub strays : b.strays ≡ a.strays
   pub owed : b.owed ≡ a.owed
   pub stopped : b.stopped ≡ a.stopped
+  pub forced : b.forced ≡ a.forced
   pub told_ready : b.told ≡ a.told
 
 -- what a worker has in its queue, its strays among it, and what it told or is to tell
@@ -85,3 +87,4 @@ pub record OwesMore {L Fut : Type 0} (identity : L → Identity) (note : Note L)
   pub strays : b.strays ≡ a.strays
   pub live : b.live ≡ a.live
   pub stopped : b.stopped ≡ a.stopped
+  pub forced : b.forced ≡ a.forced

@@ -15,4 +15,5 @@ pub record Posts {L Fut : Type 0} (a b : Connections L Fut) : Type 0 where
   pub strays : b.strays ≡ a.strays
   pub live : b.live ≡ a.live
   pub stopped : b.stopped ≡ a.stopped
+  pub forced : b.forced ≡ a.forced
   pub told_ready : b.told ≡ a.told

@@ -18,4 +18,5 @@ pub record IsFresh {L Fut : Type 0} (w : Connections L Fut) : Type 0 where
   pub live : w.live.items ≡ []
   pub owed : w.owed.items ≡ []
   pub stopped : w.stopped ≡ false
+  pub forced : w.forced ≡ false
   pub told : w.told ≡ false

@@ -1,28 +1,26 @@
 -- What a worker takes from its ring.
-use Rattle.std.specs.Prelude.{◌≡◌, ◌++◌, ◌||◌, ℕ, Bool, true, false, List, All}
+use Rattle.std.specs.Prelude.{◌≡◌, ◌++◌, ◌||◌, ℕ, List, All}
 use Rattle.std.specs.List.{list_any}
 use Rattle.rtrb.specs.Ring.{received}
 use Rattle.server_worker.specs.Sound.{Strays, WaitsFor}
+use Rattle.server_worker.specs.Stops.{is_force, is_stop}
 use Rattle.server_worker.specs.declared.connections.Connections.{Connections}
 use Rattle.server_jobs.specs.declared.parcel.Parcel.{Parcel}
-use Rattle.server_jobs.specs.declared.parcel.Parcel.TheVariants.{Conn, Stop}
 use Rattle.server_jobs.specs.declared.waiting.Waiting.{Waiting}
 
-abbrev pub is_stop : {L : Type 0} → Parcel L → Bool
-is_stop (Conn serial token place link) = false
-is_stop (Stop graceful) = true
-
--- more was received, and it is stopped where it was, or where a stop was among that
+-- more was received, and it is stopped where it was, or where a stop was among that; so it is by force
 pub record Receives {L Fut : Type 0} (a b : Connections L Fut) : Type 0 where
   pub more : List (Parcel L)
   pub came : received b.parcels ≡ received a.parcels ++ more
   pub stopped : b.stopped ≡ (a.stopped || list_any is_stop more)
+  pub forced : b.forced ≡ (a.forced || list_any is_force more)
 
 -- What came went behind the queue, or, where there is no service for it, behind the strays.
 pub record Takes {L Fut : Type 0} (listeners : ℕ) (a b : Connections L Fut) : Type 0 where
   pub more : List (Parcel L)
   pub came : received b.parcels ≡ received a.parcels ++ more
   pub stopped : b.stopped ≡ (a.stopped || list_any is_stop more)
+  pub forced : b.forced ≡ (a.forced || list_any is_force more)
   pub queued : List (Waiting L)
   pub queue : b.queue.items ≡ a.queue.items ++ queued
   pub each_queued : All (WaitsFor listeners (received b.parcels)) queued
@@ -43,6 +41,7 @@ pub record Grows {L Fut : Type 0} (a b : Connections L Fut) : Type 0 where
   pub live : b.live.items ≡ a.live.items
   pub owed : b.owed.items ≡ a.owed.items
   pub stopped : b.stopped ≡ a.stopped
+  pub forced : b.forced ≡ a.forced
   pub told_ready : b.told ≡ a.told
 
 -- more came behind the queue, and nothing left it

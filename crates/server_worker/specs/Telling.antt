@@ -1,6 +1,7 @@
 -- How a worker tells, once, that all its services stand.
 use Rattle.std.specs.Prelude.{◌≡◌, ℕ, ◌+◌, Bool, true, false, List, sum_by}
 use Rattle.rtrb.specs.Ring.{sent}
+use Rattle.server_run.specs.Outcome.{is_stopped}
 use Rattle.server_run.specs.declared.entry.Entry.{Entry}
 use Rattle.server_jobs.specs.declared.note.Note.{Note}
 use Rattle.server_jobs.specs.declared.note.Note.TheVariants.{Ready, Back, Faulted}
@@ -11,6 +12,10 @@ use Rattle.server_worker.specs.declared.slot.Slot.{Slot}
 -- notes that hand a connection back weigh nothing
 abbrev pub WeighsSignals : {L : Type 0} → (Note L → ℕ) → Type 0
 WeighsSignals {L} f = (entry : Entry L) → f (Back entry) ≡ 0
+
+-- notes that hand back a connection that ended weigh nothing; one that a stop gave back may weigh
+abbrev pub WeighsNoEnd : {L : Type 0} → (Note L → ℕ) → Type 0
+WeighsNoEnd {L} f = (entry : Entry L) → is_stopped entry.outcome ≡ false → f (Back entry) ≡ 0
 
 -- the weight of the notes that were sent, and of those that are owed
 abbrev pub noted : {L Fut : Type 0} → (Note L → ℕ) → Connections L Fut → ℕ

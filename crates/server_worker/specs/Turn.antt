@@ -1,5 +1,5 @@
 -- What a worker is between two turns, and when a turn may say that it goes on.
-use Rattle.std.specs.Prelude.{◌≡◌, ◌≢◌, ◌<◌, ◌⊎◌, ⊤, ℕ, Bool, true, false, List, [], length, slice_get, Result}
+use Rattle.std.specs.Prelude.{◌≡◌, ◌≢◌, ◌↔◌, ◌<◌, ◌⊎◌, ⊤, ℕ, Bool, true, false, List, [], length, slice_get, Result}
 use Rattle.futures.specs.declared.future.Future.{Ghosts as FutureOf}
 use Rattle.futures.specs.declared.task.Poll.TheVariants.{Pending}
 use Rattle.rtrb.specs.Ring.{known_free}
@@ -34,22 +34,22 @@ IsGoing (Left none_held) = ⊥
 IsGoing (Unstarted token error) = ⊥
 IsGoing (Faulted token readiness error) = ⊥
 
--- What a worker waits for when it goes on.
+-- What a worker waits for when it goes on. After a stop it asks nothing of its services.
 pub record GoesOn {L S Fac E Fut MFut : Type 0} (may_ready : ℕ → Readiness E → Type 0) (before : List (Slot MFut S)) (services : Services Fac MFut S) (hand : Connections L Fut) : Type 0 where
   -- it keeps no note while a place of their ring is known free
   pub notes : (hand.owed.items ≡ []) ⊎ (known_free hand.notes ≡ 0)
   -- where it makes services, not all stand, and each that doesn't was pending
-  pub unmade : services.made ≡ false → ¬ AllMade services.slots.items
-  pub making : services.made ≡ false → (token : ℕ) → token < length services.slots.items
+  pub unmade : hand.stopped ≡ false → services.made ≡ false → ¬ AllMade services.slots.items
+  pub making : hand.stopped ≡ false → services.made ≡ false → (token : ℕ) → token < length services.slots.items
       → IsMade (slice_get services.slots.items token) ⊎ Rose (making_waits (slice_get before token)) (making_waits (slice_get services.slots.items token))
   -- a service that isn't available may be pending
-  pub ready : services.made ≡ true → (token : ℕ) → token < length services.slots.items
+  pub ready : hand.stopped ≡ false → services.made ≡ true → (token : ℕ) → token < length services.slots.items
       → (status_of services.core token ≡ Available) ⊎ may_ready token Pending
 
--- it leaves where it was stopped and holds no connection, and else goes on
-abbrev pub ComesTo : {E I : Type 0} → Bool → ℕ → Bool → Turned E I → Type 0
-ComesTo stopped total all Going = (all ≡ true) × (stopped ≡ true → total ≢ 0)
-ComesTo stopped total all Short = (all ≡ false) × (stopped ≡ true → total ≢ 0)
-ComesTo stopped total all (Left none_held) = (none_held ≡ true) × (stopped ≡ true) × (total ≡ 0)
-ComesTo stopped total all (Unstarted token error) = ⊥
-ComesTo stopped total all (Faulted token readiness error) = ⊥
+-- Stopped by force it leaves, and stopped otherwise it leaves where it holds no connection; and else it goes on.
+abbrev pub ComesTo : {E I : Type 0} → Bool → Bool → ℕ → Bool → Turned E I → Type 0
+ComesTo stopped forced total all Going = (all ≡ true) × (stopped ≡ true → (total ≢ 0) × (forced ≡ false))
+ComesTo stopped forced total all Short = (all ≡ false) × (stopped ≡ true → (total ≢ 0) × (forced ≡ false))
+ComesTo stopped forced total all (Left none_held) = (stopped ≡ true) × ((none_held ≡ true) ↔ (total ≡ 0)) × (none_held ≡ false → forced ≡ true)
+ComesTo stopped forced total all (Unstarted token error) = ⊥
+ComesTo stopped forced total all (Faulted token readiness error) = ⊥

@@ -1,5 +1,5 @@
 -- Words on a worker.
-use Rattle.std.specs.Prelude.{ℕ, ◌+◌, Bool, List, length}
+use Rattle.std.specs.Prelude.{ℕ, ◌+◌, ◌&&◌, Bool, not, List, length}
 use Rattle.std.specs.Vec.{vec_len}
 use Rattle.std.specs.VecDeque.{deque_len}
 use Rattle.std.specs.declared.alloc.Global.{Global}
@@ -56,11 +56,19 @@ module _ {L F Fac E S I MFut Fut : Type 0} where
   abbrev pub stopped_of : Worker L F Fac E S I MFut Fut → Bool
   stopped_of w = w.hand.stopped
 
+  -- it took a stop that is not graceful
+  abbrev pub forced_of : Worker L F Fac E S I MFut Fut → Bool
+  forced_of w = w.hand.forced
+
+  -- it asks its services whether they are ready: they stand, and it took no stop
+  abbrev pub is_asking : Worker L F Fac E S I MFut Fut → Bool
+  is_asking w = w.services.made && not w.hand.stopped
+
   -- it told that all its services stand, or that it ends by a fault, or is to tell it by what is owed
   abbrev pub told_of : Worker L F Fac E S I MFut Fut → Bool
   told_of w = w.hand.told
 
-  -- how many connections it held at the end of the last turn
+  -- how many connections it held at the end of the last turn, or, after a stop that is not graceful, were live before it
   abbrev pub total_of : Worker L F Fac E S I MFut Fut → ℕ
   total_of w = w.total
 

@@ -128,7 +128,8 @@ impl<L: Link, F: ServerServiceFactory<L>> Worker<L, F> {
         }
     }
 
-    /// How many connections it held at the end of the last turn: queued, of no known listener, and live.
+    /// How many connections it held at the end of the last turn: queued, of no known listener, and live. After a stop that is not
+    /// graceful, how many were live before that turn.
     pub fn total(&self) -> u64
         ensures { result ≡ total_of self.now }
     {

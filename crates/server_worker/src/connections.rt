@@ -1,4 +1,4 @@
-ghost use Rattle.std.specs.Prelude.{◌≡◌, ◌+◌, ◌≤◌, ◌<◌, false, vec_len, vec_capacity};
+ghost use Rattle.std.specs.Prelude.{◌≡◌, ◌+◌, ◌≤◌, ◌<◌, false, true, vec_len, vec_capacity};
 ghost use Rattle.std.specs.VecDeque.{deque_len, deque_capacity};
 
 use crate::live::Live;
@@ -18,7 +18,10 @@ pub(crate) struct Connections<L: Drop, Fut> {
     pub(crate) live: Vec<Live<L, Fut>>,
     // What is to be handed back.
     pub(crate) owed: VecDeque<Note<L>>,
+    // A stop came.
     pub(crate) stopped: bool,
+    // A stop came that is not graceful.
+    pub(crate) forced: bool,
     // The acceptor was told that all services stand, or that the worker ends by a fault, or is to be told by what is owed.
     pub(crate) told: bool,
     // Each that waits has its place among the live ones, and each has its way back.
@@ -28,4 +31,5 @@ pub(crate) struct Connections<L: Drop, Fut> {
     ghost stays: { vec_len strays + (vec_len live + deque_len queue) ≤ vec_capacity strays },
     // So has the note that all services stand, or the one that the worker ends by a fault.
     ghost way_of_ready: { told ≡ false → deque_len owed + (vec_len live + (deque_len queue + vec_len strays)) < deque_capacity owed },
+    ghost forces: { forced ≡ true → stopped ≡ true },
 }

@@ -7,7 +7,7 @@ ghost use Rattle.server_worker.specs.Leaving.{Gathers, Leaves, Runs, Unqueues};
 ghost use Rattle.server_worker.specs.Polled.{OwesMore};
 ghost use Rattle.server_worker.specs.Sound.{IsSound, Lives, Serves};
 ghost use Rattle.server_worker.specs.Telling.{TellsFault};
-ghost use Rattle.server_worker.specs.Workers.{factory_of, hand_of, held_by, listeners_of, stopped_of};
+ghost use Rattle.server_worker.specs.Workers.{factory_of, forced_of, hand_of, held_by, listeners_of, stopped_of, total_of};
 ghost use Rattle.server_worker.specs.declared.connections.Connections.{Connections};
 
 use crate::connections::Connections;
@@ -54,7 +54,7 @@ impl<L: Link, Fut: Drop> Connections<L, Fut> {
 }
 
 // A live connection as it stands.
-fn let_go<L, F>(
+pub(crate) fn let_go<L, F>(
     factory: &F,
     live: Live<L, <<F::Factory as ServiceFactory<L>>::Service as Service<L>>::Future>,
 ) -> Waiting<L>
@@ -133,7 +133,9 @@ impl<L: Link, F: ServerServiceFactory<L>> Worker<L, F> {
         ensures runs { Runs L.identity (F.may_serve (factory_of self.new)) (F.may_leave (factory_of self.new)) (F.may_make (factory_of self.new)) (listeners_of self.new) (hand_of self.old) (hand_of self.new) }
         ensures fault { TellsFault (hand_of self.old) (hand_of self.new) }
         ensures stopped { stopped_of self.new ≡ stopped_of self.old }
+        ensures forced { forced_of self.new ≡ forced_of self.old }
         ensures held { held_by self.new ≡ held_by self.old }
+        ensures total { total_of self.new ≡ total_of self.old }
     {
         self.hand.owe_fault();
         self.hand.post();
@@ -165,6 +167,7 @@ impl<L: Link, F: ServerServiceFactory<L>> Worker<L, F> {
             live: _,
             owed,
             stopped: _,
+            forced: _,
             told: _,
         } = hand;
         Handed {

@@ -13,6 +13,7 @@ mod posting;
 mod readiness;
 mod services;
 mod slot;
+mod stopping;
 mod taking;
 mod turned;
 mod turning;

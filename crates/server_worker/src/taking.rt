@@ -1,5 +1,5 @@
 //! What a worker takes from its ring.
-ghost use Rattle.std.specs.Prelude.{◌≡◌, ◌+◌, ◌<◌, IsTrue, IsFalse, IfOk, IfErr, [], length};
+ghost use Rattle.std.specs.Prelude.{◌≡◌, ◌+◌, ◌<◌, ◌||◌, not, true, IsTrue, IsFalse, IfOk, IfErr, [], length};
 ghost use Rattle.rtrb.specs.Ring.{known_items};
 ghost use Rattle.server_worker.specs.Holding.{Accounts};
 ghost use Rattle.server_worker.specs.Taken.{Grows, Takes};
@@ -36,6 +36,7 @@ impl<L: Link, Fut: Drop> Connections<L, Fut> {
             live: Vec::new(alloc),
             owed,
             stopped: false,
+            forced: false,
             told: false,
         })
     }
@@ -52,6 +53,26 @@ impl<L: Link, Fut: Drop> Connections<L, Fut> {
             && self.strays.reserve(self.live.len() + waiting).is_ok()
             && self.live.reserve(waiting).is_ok()
             && self.owed.reserve(all).is_ok()
+    }
+
+    #[tactic(auto, using(crate::proofs::TakeSteps::or_none, crate::proofs::TakeSteps::or_true))]
+    // A stop came.
+    fn note_stop(&mut self, graceful: bool)
+        ensures stopped { self.new.stopped ≡ true }
+        ensures forced { self.new.forced ≡ (self.old.forced || not graceful) }
+        ensures parcels { self.new.parcels ≡ self.old.parcels }
+        ensures notes { self.new.notes ≡ self.old.notes }
+        ensures queue { self.new.queue ≡ self.old.queue }
+        ensures strays { self.new.strays ≡ self.old.strays }
+        ensures live { self.new.live ≡ self.old.live }
+        ensures owed { self.new.owed ≡ self.old.owed }
+        ensures told { self.new.told ≡ self.old.told }
+    {
+        self.stopped = true;
+        if graceful {
+            return;
+        }
+        self.forced = true;
     }
 
     // Takes one parcel that is known, for which there is room.
@@ -81,7 +102,7 @@ impl<L: Link, Fut: Drop> Connections<L, Fut> {
                     self.strays.push_reserved(waiting);
                 }
             }
-            Parcel::Stop { graceful: _ } => self.stopped = true,
+            Parcel::Stop { graceful } => self.note_stop(graceful),
         }
     }
 

@@ -5,7 +5,8 @@ pub enum Turned<E, I> {
     Going,
     /// It goes on, and something stayed in the ring to it for want of memory.
     Short,
-    /// It was stopped, and leaves. True says that it holds no connection.
+    /// It was stopped, and leaves. True says that it held no connection that was served, and false that it handed some back as they
+    /// stand, by a stop that is not graceful.
     Left(bool),
     /// A service could not be made for the first time.
     Unstarted {

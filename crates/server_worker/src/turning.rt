@@ -1,5 +1,5 @@
 //! A worker's turn.
-ghost use Rattle.std.specs.Prelude.{◌≡◌, ◌≢◌, ◌<◌, ◌+◌, ◌⊎◌, ℕ, [], length, cond, vec_len, true, false, Err};
+ghost use Rattle.std.specs.Prelude.{◌≡◌, ◌≢◌, ◌↔◌, ◌<◌, ◌+◌, ◌⊎◌, ℕ, [], Bool, length, cond, vec_len, true, false, Err};
 ghost use Rattle.std.specs.VecDeque.{deque_len};
 ghost use Rattle.futures.specs.Task.{Keeps};
 ghost use Rattle.futures.specs.declared.task.Poll.TheVariants.{Ready as PollReady};
@@ -11,10 +11,12 @@ ghost use Rattle.server_worker.specs.Holding.{Accounts};
 ghost use Rattle.server_worker.specs.Polled.{Admits, OwesMore, PollsLive};
 ghost use Rattle.server_worker.specs.Sound.{IsSound, Tells};
 ghost use Rattle.server_worker.specs.Standing.{AllMade};
+ghost use Rattle.server_worker.specs.Stopping.{GivesUp, Returns, told_as};
 ghost use Rattle.server_worker.specs.Taken.{Queues, Receives};
 ghost use Rattle.server_worker.specs.Telling.{TellsNoReady, TellsReady};
 ghost use Rattle.server_worker.specs.Turn.{ComesTo, GoesOn, IsGoing, Works};
-ghost use Rattle.server_worker.specs.Workers.{core_of, factory_of, hand_of, held_by, listeners_of, made_of, parcels_of, queue_of, services_of, slots_of, stopped_of, told_of, total_of};
+ghost use Rattle.server_worker.specs.Workers.{core_of, factory_of, forced_of, hand_of, held_by, is_asking, listeners_of, made_of, parcels_of, queue_of, services_of, slots_of, stopped_of, told_of, total_of};
+ghost use Rattle.server_jobs.specs.Cards.{Card};
 ghost use Rattle.server_jobs.specs.declared.note.Note.TheVariants.{Ready};
 ghost use Rattle.server_worker.specs.declared.turned.Turned.TheVariants.{Going, Short, Left, Unstarted, Faulted};
 
@@ -76,7 +78,7 @@ impl<L: Link, F: ServerServiceFactory<L>> Worker<L, F> {
     }
 
     // Polls the live connections, and hands back what has ended.
-    fn serve_live(&mut self, cx: &mut Context<'_>)
+    pub(crate) fn serve_live(&mut self, cx: &mut Context<'_>)
         requires sound { IsSound F.Factory.Service.Future.Future F.Factory.Service.Future.may_stand (F.may_serve self.old.factory) (F.may_leave self.old.factory) (F.may_make self.old.factory)
             (length self.old.services.slots.items) self.old.hand }
         ensures sound { IsSound F.Factory.Service.Future.Future F.Factory.Service.Future.may_stand (F.may_serve self.new.factory) (F.may_leave self.new.factory) (F.may_make self.new.factory)
@@ -91,7 +93,10 @@ impl<L: Link, F: ServerServiceFactory<L>> Worker<L, F> {
         ensures no_ready { TellsNoReady self.old.hand self.new.hand }
         ensures parcels { self.new.hand.parcels ≡ self.old.hand.parcels }
         ensures queue { self.new.hand.queue ≡ self.old.hand.queue }
+        ensures strays { self.new.hand.strays ≡ self.old.hand.strays }
         ensures stopped { self.new.hand.stopped ≡ self.old.hand.stopped }
+        ensures forced { self.new.hand.forced ≡ self.old.hand.forced }
+        ensures stops { (forced : Bool) (h : Card → ℕ) → told_as L.identity forced h self.new.hand ≡ told_as L.identity forced h self.old.hand }
         ensures notes { (self.new.hand.owed.items ≡ []) ⊎ (known_free self.new.hand.notes ≡ 0) }
         ensures total { self.new.total ≡ vec_len self.new.hand.live + (deque_len self.new.hand.queue + vec_len self.new.hand.strays) }
         ensures kept { Keeps cx.old cx.new }
@@ -101,12 +106,73 @@ impl<L: Link, F: ServerServiceFactory<L>> Worker<L, F> {
         self.total = self.hand.total();
     }
 
+    // The turn of a worker that was not stopped, which took `all` that was in the ring, or not.
+    fn turn_on(
+        &mut self,
+        all: bool,
+        cx: &mut Context<'_>,
+    ) -> Turned<
+        <F::Factory as ServiceFactory<L>>::Error,
+        <F::Factory as ServiceFactory<L>>::InitError,
+    >
+        requires unstopped { self.old.hand.stopped ≡ false }
+        requires works { Works F.Factory.Future.Future F.Factory.Service.Service F.Factory.Service.Future.Future F.Factory.Service.Future.may_stand
+            (F.may_serve self.old.factory) (F.may_leave self.old.factory) (F.may_ready self.old.factory) (F.may_init self.old.factory) (F.may_make self.old.factory) self.old.services self.old.hand }
+        requires never_errs { (token : ℕ) (e : F.Factory.Error) → F.may_ready self.old.factory token (PollReady (Err e)) → ⊥ }
+        ensures works { IsGoing result → Works F.Factory.Future.Future F.Factory.Service.Service F.Factory.Service.Future.Future F.Factory.Service.Future.may_stand
+            (F.may_serve self.new.factory) (F.may_leave self.new.factory) (F.may_ready self.new.factory) (F.may_init self.new.factory) (F.may_make self.new.factory) self.new.services self.new.hand }
+        ensures sound { IsSound F.Factory.Service.Future.Future F.Factory.Service.Future.may_stand (F.may_serve self.new.factory) (F.may_leave self.new.factory) (F.may_make self.new.factory)
+            (length self.new.services.slots.items) self.new.hand }
+        ensures factory { self.new.factory ≡ self.old.factory }
+        ensures listeners { length self.new.services.slots.items ≡ length self.old.services.slots.items }
+        ensures accounts { Accounts L.identity self.old.hand self.new.hand }
+        ensures tells { Tells (F.may_serve self.new.factory) (F.may_leave self.new.factory) (F.may_make self.new.factory) (length self.new.services.slots.items) self.old.hand self.new.hand }
+        ensures ready { TellsReady self.new.services.slots.items self.old.hand self.new.hand }
+        ensures ready_told { IsGoing result → self.new.services.made ≡ true → self.new.hand.told ≡ true }
+        ensures stops { (forced : Bool) (h : Card → ℕ) → told_as L.identity forced h self.new.hand ≡ told_as L.identity forced h self.old.hand }
+        ensures polls { PollsLive L.identity self.old.hand self.new.hand }
+        ensures asks { AsksUpTo (F.may_ready self.new.factory) self.old.services.core self.new.services.core (cond self.new.services.made (length self.new.services.slots.items) 0) }
+        ensures admits { IsGoing result → self.new.services.made ≡ true → state_of self.new.services.core ≡ state.Available → self.new.hand.queue.items ≡ [] }
+        ensures waits { (self.new.services.made ≡ true → state_of self.new.services.core ≡ state.Available → ⊥) → self.new.hand.queue.items ≡ self.old.hand.queue.items }
+        ensures going { IsGoing result → GoesOn (F.may_ready self.new.factory) self.old.services.slots.items self.new.services self.new.hand }
+        ensures parcels { self.new.hand.parcels ≡ self.old.hand.parcels }
+        ensures stopped { self.new.hand.stopped ≡ false }
+        ensures forced { self.new.hand.forced ≡ self.old.hand.forced }
+        ensures all { result ≡ Going → all ≡ true }
+        ensures short { result ≡ Short → all ≡ false }
+        ensures total { self.new.total ≡ vec_len self.new.hand.live + (deque_len self.new.hand.queue + vec_len self.new.hand.strays) }
+        ensures left { (b : _) → result ≡ Left b → ⊥ }
+        ensures unstarted { (token : ℕ) (error : F.Factory.InitError) → result ≡ Unstarted token error
+            → (token < length self.new.services.slots.items) × F.may_init self.new.factory token error × (self.new.services.made ≡ false) }
+        ensures untold { (token : ℕ) (error : F.Factory.InitError) → result ≡ Unstarted token error → self.new.hand.told ≡ false }
+        ensures faulted { (token : ℕ) (readiness : F.Factory.Error) (error : F.Factory.InitError) → result ≡ Faulted token readiness error → ⊥ }
+        ensures kept { Keeps cx.old cx.new }
+    {
+        match make_services(&self.factory, &mut self.services.slots, cx) {
+            Some((token, error)) => {
+                self.serve_live(cx);
+                Turned::Unstarted { token, error }
+            }
+            None => {
+                self.admit_ready(cx);
+                self.tell_ready();
+                self.serve_live(cx);
+                self.come_to(all)
+            }
+        }
+    }
+
     /// Takes what the ring to it holds, admits those that may be served, polls each live connection once, and hands back what has
     /// ended, as far as the ring back has places (a poll of `actix-server`'s `ServerWorker`). The readiness of its services must
     /// never err.
     ///
-    /// It is `Left` once it took a stop and holds no connection, and `Unstarted` where a factory refuses a service. Else it is
-    /// `Going`, or `Short` in place of that where memory for a parcel was refused, which then stays in the ring.
+    /// Once it took a stop it makes and asks no service, and admits none. Those that wait it hands back as they came, as
+    /// `Stopped { forced: false }`. A graceful stop lets those that are served end: they are polled on, each once a turn, and it is
+    /// `Left(true)` once it holds none. By a stop that is not graceful it polls none: it hands back each live connection as it
+    /// stands, as `Stopped { forced: true }`, and is `Left` at once, with true where none was live.
+    ///
+    /// It is `Unstarted` where a factory refuses a service. Else it is `Going`, or `Short` in place of that where memory for a
+    /// parcel was refused, which then stays in the ring.
     pub fn turn(
         &mut self,
         cx: &mut Context<'_>,
@@ -131,55 +197,59 @@ impl<L: Link, F: ServerServiceFactory<L>> Worker<L, F> {
 
         // That all services stand is told once, and then only.
         ensures ready { TellsReady (slots_of self.new) (hand_of self.old) (hand_of self.new) }
-        ensures ready_told { IsGoing result → made_of self.new ≡ true → told_of self.new ≡ true }
+        ensures ready_told { IsGoing result → stopped_of self.new ≡ false → made_of self.new ≡ true → told_of self.new ≡ true }
 
-        // Each live connection is polled once.
-        ensures polls { PollsLive L.identity (hand_of self.old) (hand_of self.new) }
+        // Each live connection is polled once, but not after a stop that is not graceful.
+        ensures polls { forced_of self.new ≡ false → PollsLive L.identity (hand_of self.old) (hand_of self.new) }
 
-        // Once all services stand each is asked, once. Where every one is available, no connection that has one stays in the queue;
-        // and else none is admitted.
-        ensures asks { AsksUpTo (F.may_ready (factory_of self.new)) (core_of self.old) (core_of self.new) (cond (made_of self.new) (listeners_of self.new) 0) }
+        // After a stop those that wait are handed back as they came; after one that is not graceful the live ones are, as they stand.
+        // And else none is handed back so.
+        ensures returns { stopped_of self.new ≡ true → Returns L.identity (hand_of self.old) (hand_of self.new) }
+        ensures gives_up { forced_of self.new ≡ true → GivesUp L.identity (hand_of self.old) (hand_of self.new) }
+        ensures unforced { forced_of self.new ≡ false → (h : Card → ℕ) → told_as L.identity true h (hand_of self.new) ≡ told_as L.identity true h (hand_of self.old) }
+        ensures unstopped { stopped_of self.new ≡ false → (h : Card → ℕ) → told_as L.identity false h (hand_of self.new) ≡ told_as L.identity false h (hand_of self.old) }
+
+        // Once all services stand each is asked, once, but not after a stop. Where every one is available, no connection that has one
+        // stays in the queue; and else none is admitted.
+        ensures asks { AsksUpTo (F.may_ready (factory_of self.new)) (core_of self.old) (core_of self.new) (cond (is_asking self.new) (listeners_of self.new) 0) }
         ensures admits { IsGoing result → made_of self.new ≡ true → state_of (core_of self.new) ≡ state.Available → queue_of self.new ≡ [] }
-        ensures waits { (made_of self.new ≡ true → state_of (core_of self.new) ≡ state.Available → ⊥) → Queues (hand_of self.old) (hand_of self.new) }
+        ensures waits { stopped_of self.new ≡ false → (made_of self.new ≡ true → state_of (core_of self.new) ≡ state.Available → ⊥) → Queues (hand_of self.old) (hand_of self.new) }
 
         // It goes on only where it waits for something.
         ensures going { IsGoing result → GoesOn (F.may_ready (factory_of self.new)) (slots_of self.old) (services_of self.new) (hand_of self.new) }
         ensures emptied { result ≡ Going → known_items (parcels_of self.new) ≡ [] }
         ensures short { result ≡ Short → 0 < length (known_items (parcels_of self.new)) }
-        ensures total { total_of self.new ≡ held_by self.new }
-        ensures left { (b : _) → result ≡ Left b → (b ≡ true) × (stopped_of self.new ≡ true) × (total_of self.new ≡ 0) }
-        ensures stays { IsGoing result → stopped_of self.new ≡ true → total_of self.new ≢ 0 }
+        ensures total { forced_of self.new ≡ false → total_of self.new ≡ held_by self.new }
+        ensures live_total { forced_of self.new ≡ true → total_of self.new ≡ vec_len (hand_of self.old).live }
+        ensures left { (b : _) → result ≡ Left b
+            → (stopped_of self.new ≡ true) × ((b ≡ true) ↔ (total_of self.new ≡ 0)) × (b ≡ false → forced_of self.new ≡ true) × (held_by self.new ≡ 0) }
+        ensures stays { IsGoing result → stopped_of self.new ≡ true → (total_of self.new ≢ 0) × (forced_of self.new ≡ false) }
         ensures unstarted { (token : ℕ) (error : F.Factory.InitError) → result ≡ Unstarted token error
-            → (token < listeners_of self.new) × F.may_init (factory_of self.new) token error × (made_of self.new ≡ false) }
+            → (token < listeners_of self.new) × F.may_init (factory_of self.new) token error × (made_of self.new ≡ false) × (stopped_of self.new ≡ false) }
         ensures untold { (token : ℕ) (error : F.Factory.InitError) → result ≡ Unstarted token error → told_of self.new ≡ false }
         ensures faulted { (token : ℕ) (readiness : F.Factory.Error) (error : F.Factory.InitError) → result ≡ Faulted token readiness error → ⊥ }
         ensures kept { Keeps cx.old cx.new }
     {
         let all = self.hand.take(self.services.slots.len());
-        match make_services(&self.factory, &mut self.services.slots, cx) {
-            Some((token, error)) => {
-                self.serve_live(cx);
-                Turned::Unstarted { token, error }
-            }
-            None => {
-                self.admit_ready(cx);
-                self.tell_ready();
-                self.serve_live(cx);
-                self.come_to(all)
-            }
+        if self.hand.stopped {
+            return self.turn_after_stop(all, cx);
         }
+        self.turn_on(all, cx)
     }
 
     // What the turn comes to, where it took `all` that was in the ring, or not.
-    fn come_to(
+    pub(crate) fn come_to(
         &self,
         all: bool,
     ) -> Turned<
         <F::Factory as ServiceFactory<L>>::Error,
         <F::Factory as ServiceFactory<L>>::InitError,
     >
-        ensures { ComesTo self.now.hand.stopped self.now.total all result }
+        ensures { ComesTo self.now.hand.stopped self.now.hand.forced self.now.total all result }
     {
+        if self.hand.forced {
+            return Turned::Left(self.total == 0);
+        }
         if self.hand.stopped && self.total == 0 {
             return Turned::Left(true);
         }

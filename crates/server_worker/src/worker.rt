@@ -17,6 +17,7 @@ pub struct Worker<L: Link, F: ServerServiceFactory<L>> {
         L,
         <<F::Factory as ServiceFactory<L>>::Service as Service<L>>::Future,
     >,
-    // How many connections it held at the end of the last turn, queued and live.
+    // How many connections it held at the end of the last turn, queued and live; after a stop that is not graceful, how many were live
+    // before that turn.
     pub(crate) total: u64,
 }

@@ -12,8 +12,13 @@ pub(crate) struct Ends {
 }
 
 impl Ends {
-    /// Tells the worker to stop. False where the ring has no place.
+    /// Tells the worker to stop, once what it serves has ended. False where the ring has no place.
     pub(crate) fn stop(&mut self) -> bool {
-        self.parcels.push(Parcel::Stop { graceful: true }).is_ok()
+        self.stop_by(true)
+    }
+
+    /// Tells the worker to stop, gracefully or not. False where the ring has no place.
+    pub(crate) fn stop_by(&mut self, graceful: bool) -> bool {
+        self.parcels.push(Parcel::Stop { graceful }).is_ok()
     }
 }

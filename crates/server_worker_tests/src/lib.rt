@@ -24,6 +24,8 @@ mod side;
 #[cfg(test)]
 mod station;
 #[cfg(test)]
+mod stop_tests;
+#[cfg(test)]
 mod thread_tests;
 #[cfg(test)]
 mod trial;

@@ -21,7 +21,7 @@ pub(crate) const LISTENERS: usize = 3;
 /// How a worker ended.
 #[derive(Clone, Copy, PartialEq, Eq)]
 pub(crate) enum Ending {
-    /// It was stopped. True says that it held no connection.
+    /// It was stopped. True says that it held no connection that was served.
     Left(bool),
     /// The factory of that token refused its service by an error that names a token.
     Unstarted {

@@ -110,7 +110,7 @@ fn are_served_from<R: Given>(
     first: u32,
 ) -> Result<bool, AllocError> {
     let mut ledger = mixed(rt.alloc(), 30, 0)?;
-    let is_left = comes_to(rt, of(plan, 2), &mut ledger, LEFT, 0)?;
+    let is_left = comes_to(rt, of(plan, 10), &mut ledger, LEFT, 0)?;
     Ok(is_left && ledger.ready == Some(ready) && ledger.first() == Some(first))
 }
 
@@ -163,7 +163,11 @@ fn a_connection_of_no_listener_stays(rt: HostRuntime) -> Result<(), Fail> {
     let mut ledger = mixed(rt.alloc(), 6, 0)?;
     ledger.add(LISTENERS, Kind::Whole, 1)?;
     ledger.add(usize::MAX, Kind::Empty, 1)?;
-    assert!(rt; comes_to(&rt, of(PLAIN, 30), &mut ledger, None, 2)?);
+    let trial = Trial {
+        stop: None,
+        ..of(PLAIN, 0)
+    };
+    assert!(rt; comes_to(&rt, trial, &mut ledger, None, 2)?);
     Ok(())
 }
 
@@ -181,7 +185,7 @@ fn leaves_at_once<R: Given>(rt: &R, stop: u32) -> Result<bool, AllocError> {
     let slow = Plan { waits: 1, ..PLAIN };
     let mut ledger = Ledger::new(rt.alloc());
     let is_left = comes_to(rt, of(slow, stop), &mut ledger, LEFT, 0)?;
-    Ok(is_left && ledger.turn == stop && ledger.ready.is_some() == (stop >= 2))
+    Ok(is_left && ledger.turn == stop && ledger.ready.is_some() == (stop >= 3))
 }
 
 #[test]
@@ -193,16 +197,17 @@ fn a_stop_with_nothing_held_is_left_at_once(rt: HostRuntime) -> Result<(), Fail>
 }
 
 // Whether a worker that is stopped leaves at the turn at which its last connection ends.
-fn leaves_behind_the_last<R: Given>(rt: &R, stop: u32) -> Result<bool, AllocError> {
-    let mut ledger = alike(rt.alloc(), 3, 1, Kind::Waiting)?;
+fn leaves_behind_the_last<R: Given>(rt: &R, kind: Kind, stop: u32) -> Result<bool, AllocError> {
+    let mut ledger = alike(rt.alloc(), 3, 1, kind)?;
     let is_left = comes_to(rt, of(PLAIN, stop), &mut ledger, LEFT, 0)?;
     Ok(is_left && stop < ledger.turn && ledger.last() == Some(ledger.turn))
 }
 
 #[test]
 fn a_stop_waits_for_what_is_live(rt: HostRuntime) -> Result<(), Fail> {
-    for stop in 0..4 {
-        assert!(rt; leaves_behind_the_last(&rt, stop)?);
+    for stop in 1..4 {
+        assert!(rt; leaves_behind_the_last(&rt, Kind::Waiting, stop)?);
+        assert!(rt; leaves_behind_the_last(&rt, Kind::Bytewise, stop)?);
     }
     Ok(())
 }

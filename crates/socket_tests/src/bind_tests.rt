@@ -1,7 +1,7 @@
 //! Binds, and why they are refused.
 use server_bind::Binder;
 use server_run::{Host, Listener};
-use server_sockets::{BindError, MioBinder};
+use server_sockets::{MioBinder, SocketBindError};
 use std::alloc::Global;
 use std::io::ErrorKind;
 use std::net::SocketAddr;
@@ -18,14 +18,14 @@ fn may_cross<Bi: Binder<Listener: Listener<Link: Send + 'static> + Send + 'stati
 // Whether the binder last refused an address for this reason of the system.
 fn is_refused_by(binder: &MioBinder, kind: ErrorKind) -> bool {
     match binder.last_error() {
-        Some(BindError::System(error)) => error.kind() == kind,
+        Some(SocketBindError::System(error)) => error.kind() == kind,
         _ => false,
     }
 }
 
 // Whether the binder last refused a text that is no address.
 fn is_no_address(binder: &MioBinder) -> bool {
-    matches!(binder.last_error(), Some(BindError::NoAddress))
+    matches!(binder.last_error(), Some(SocketBindError::NoAddress))
 }
 
 // Whether an address at which one listens is refused to a second, and counted.
@@ -39,7 +39,10 @@ fn second_is_refused<Ho: Host>(rt: &Ho, alloc: Global) -> io::Result<bool> {
     let text = format!(in alloc; "{addr}")?;
     let second = binder.tcp(rt, text.as_str());
     let counted = binder.refusals() == 1 && is_refused_by(&binder, ErrorKind::AddrInUse);
-    let told = format!(in alloc; "{}", binder.last_error().unwrap_or(BindError::NoAddress))?;
+    let told = format!(in alloc;
+        "{}",
+        binder.last_error().unwrap_or(SocketBindError::NoAddress)
+    )?;
     let kept = binder.local_addr() == Some(addr);
     drop(first);
     let third = binder.tcp(rt, text.as_str());
@@ -87,7 +90,7 @@ fn a_text_that_is_no_address_is_refused(rt: HostRuntime) -> Result<(), Fail> {
         "::1:80x",
     ];
     assert!(rt; are_refused(&rt, &texts));
-    let told = format!(in rt.alloc(); "{}", BindError::NoAddress)?;
+    let told = format!(in rt.alloc(); "{}", SocketBindError::NoAddress)?;
     assert!(rt; told.as_str() == "not an address");
     Ok(())
 }

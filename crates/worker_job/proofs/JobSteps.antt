@@ -21,7 +21,8 @@ use Rattle.server_worker.specs.Holding.{Accounts, of_live}
 use Rattle.server_worker.specs.Leaving.{HasStayed, Leaves, Runs}
 use Rattle.server_worker.specs.Room.{IsFresh}
 use Rattle.server_worker.specs.Sound.{IsSound, IsTold, Tells}
-use Rattle.server_worker.specs.Taken.{Receives, is_stop}
+use Rattle.server_worker.specs.Stops.{is_stop}
+use Rattle.server_worker.specs.Taken.{Receives}
 use Rattle.server_worker.specs.Telling.{TellsFault, TellsReady, newly}
 use Rattle.server_worker.specs.Turn.{Works}
 use Rattle.server_worker.specs.Workers.{factory_of, hand_of, held_by, listeners_of, services_of, stopped_of}

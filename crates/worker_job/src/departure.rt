@@ -1,7 +1,8 @@
 /// Why the job of a worker ended.
 #[derive(Drop)]
 pub enum Departure<I> {
-    /// It was stopped, and held no connection.
+    /// It was stopped, and holds no connection: those that it served have ended, or it handed them back as they stood, by a stop that
+    /// is not graceful.
     Left,
     /// A service could not be made for the first time.
     Unstarted {

@@ -8,7 +8,7 @@ ghost use Rattle.worker_job.specs.declared.worker_job.WorkerJob.{WorkerJob};
 
 use crate::departure::Departure;
 use futures::task::Context;
-use server_jobs::{Handed, OneTask, Waiter};
+use server_jobs::{Handed, OneTask, SeatTask, Waiter};
 use server_run::ServerServiceFactory;
 use server_worker::{Turned, Worker};
 use service_core::{Link, Service, ServiceFactory};
@@ -18,10 +18,10 @@ use std::time::Clock;
 
 // Waits for what comes next, for a worker that held so many connections before its turn, and holds so many, and gives the context
 // of the next turn. Who started the job is woken where something may have gone to him. A worker whose connections want another
-// poll doesn't sleep: it is asked before its thread would be parked.
+// poll doesn't sleep: where there is a task that can tell it, it is asked before the thread would be parked.
 fn rest<'a, Ho: Wait + Clock>(
     waiter: &mut Waiter<Ho>,
-    task: &'a OneTask,
+    task: Option<&'a OneTask>,
     cx: Context<'a>,
     before: u64,
     now: u64,
@@ -30,9 +30,13 @@ fn rest<'a, Ho: Wait + Clock>(
     if moved {
         waiter.stirred();
     }
-    if moved || now == 0 {
+    if moved || (now == 0 && waiter.is_roused()) {
         waiter.ring();
     }
+    let Some(task) = task else {
+        waiter.wait();
+        return cx;
+    };
     if now == 0 || !waiter.is_tired() {
         waiter.wait();
         return cx;
@@ -44,10 +48,12 @@ fn rest<'a, Ho: Wait + Clock>(
     task.begin()
 }
 
-// Makes turns until the worker was stopped and holds nothing, or a service of its can't be made.
-fn make_turns<Ho, L, F>(
+// Makes turns until the worker was stopped and holds nothing, which is at once by a stop that is not graceful, or a service of its
+// can't be made.
+fn make_turns<'a, Ho, L, F>(
     host: &Ho,
-    task: &OneTask,
+    task: Option<&'a OneTask>,
+    cx: Context<'a>,
     waiter: &mut Waiter<Ho>,
     worker: &mut Worker<L, F>,
 ) -> Departure<<F::Factory as ServiceFactory<L>>::InitError>
@@ -62,7 +68,7 @@ where
     ensures departs { Departs F.may_init worker.new result }
     ensures signals { TellsOfItself (Says (hand_of worker.old) (hand_of worker.new)) result }
 {
-    let mut cx = task.begin();
+    let mut cx = cx;
     for _ in host.forever() {
         let before = worker.total();
         match worker.turn(&mut cx) {
@@ -103,7 +109,7 @@ where
     Departure::Memory
 }
 
-// Makes all turns, as one task.
+// Makes all turns, as one task: of the seat's number where the waiter sleeps, since there a link finds its thread by the task.
 fn turn_on<Ho, L, F>(
     alloc: Global,
     waiter: &mut Waiter<Ho>,
@@ -124,10 +130,20 @@ where
     let Ok(host) = waiter.host().clone() else {
         return lack_memory(worker);
     };
+    if waiter.sleeps() {
+        let Some(mut task) = SeatTask::new(alloc, waiter.number()) else {
+            return lack_memory(worker);
+        };
+        let Some(cx) = task.begin(&host) else {
+            return lack_memory(worker);
+        };
+        return make_turns(&host, None, cx, waiter, worker);
+    }
     let Some(task) = OneTask::new(alloc, waiter.number()) else {
         return lack_memory(worker);
     };
-    make_turns(&host, &task, waiter, worker)
+    let cx = task.begin();
+    make_turns(&host, Some(&task), cx, waiter, worker)
 }
 
 // Makes all turns, and hands over what the worker then has.
@@ -150,6 +166,6 @@ where
     let mut worker = worker;
     let departure = turn_on(alloc, &mut waiter, &mut worker);
     let handed = worker.into_handed(departure);
-    waiter.ring();
+    waiter.leave();
     handed
 }

@@ -55,4 +55,4 @@ future_sends L link = declared_send (gate_future.the_type L) (
 )
 
 pub serve-requires-send-F-Factory-Service-Future : goal.serve-requires-send-F-Factory-Service-Future
-serve-requires-send-F-Factory-Service-Future g c = λ κs lives. param_send 18 _ (arg_send _ no _ (future_sends memory_link.the_row memory_link_facts.the_send))
+serve-requires-send-F-Factory-Service-Future g c = λ κs lives. param_send 19 _ (arg_send _ no _ (future_sends memory_link.the_row memory_link_facts.the_send))

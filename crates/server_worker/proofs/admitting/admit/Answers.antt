@@ -3,7 +3,7 @@ use Rattle.server_worker.proofs.AdmitSteps.{admits_none, admits_trans}
 use Rattle.server_worker.proofs.admitting.admit.Goals as goal
 
 pub loop-init : goal.loop-init
-loop-init g c = (admits_none _ _ _ refl refl refl refl refl refl refl refl, c.requires.sound)
+loop-init g c = (admits_none _ _ _ refl refl refl refl refl refl refl refl refl, c.requires.sound)
 
 pub loop-preserved : goal.loop-preserved
 loop-preserved g c = (admits_trans _ c.loop.invariant.0 c.admit_one.ensures.admits, c.admit_one.ensures.sound)

@@ -4,7 +4,7 @@ use Rattle.server_acceptor.proofs.RoomSteps.{may_take_now}
 use Rattle.server_acceptor.proofs.acceptor.Acceptor.ask_listener.Goals as goal
 
 pub ask-requires-clause-may : goal.ask-requires-clause-may
-ask-requires-clause-may g c = may_take_now c.args.self.now c.requires.may
+ask-requires-clause-may g c = may_take_now c.args.self.now c.requires.may c.requires.accepts
 
 pub returns-clause-given : goal.returns-clause-given
 returns-clause-given g c = given_on _ _ _ c.args.self.now c.ask.new.self c.args.t c.ask.ensures.listeners c.ask.result c.ask.ensures.leaves c.ask.ensures.given c.requires.given

@@ -19,15 +19,20 @@ returns-clause-hands g c =
       rings = looked_rings _ c.args.w _ _ inside c.index_mut.ensures.value c.slots.ensures.looked.1 c.slots.ensures.looked.0;
       back = λ h. looked_came _ c.args.w _ _ inside c.index_mut.ensures.value c.slots.ensures.looked.1 g.L.Link.identity h;
       noted = All-nil _;
+      founded = All-nil _;
       kept = λ e. looked_kept _ c.args.w _ _ inside c.index_mut.ensures.value c.slots.ensures.looked.1 (Back e);
       balance = looked_balance _ c.args.w _ _ inside c.index_mut.ensures.value c.slots.ensures.looked.1 g.L.Link.identity c.args.self.now.core.out;
       ended = refl;
       core_waiting = refl;
       order = refl;
       paused = refl;
+      stopping = refl;
       parcels = refl;
       waiting = refl;
       stopped = refl;
+      forced = refl;
+      stop = refl;
+      shutdown_timeout = refl;
       serial = refl;
       places = refl;
       failed = refl;
@@ -49,4 +54,4 @@ pub returns-clause-others : goal.returns-clause-others
 returns-clause-others g c v differ told =
     let inside : c.args.w < length c.args.self.now.notes.items = omega (arith, c.requires.number, c.args.self.now.workers.1) in
     let came = c.slots.ensures.looked.1 ∙ sym (append-nil (received c.index_mut.result.now)) in
-    told_still _ c.args.self.now.notes.items c.args.w _ _ [] refl inside c.index_mut.ensures.value came c.args.self.now.core.out c.args.self.now.core.out v refl differ told
+    told_still _ c.args.self.now.notes.items c.args.w _ _ [] refl inside c.index_mut.ensures.value came c.args.self.now.core c.args.self.now.core v refl refl differ told

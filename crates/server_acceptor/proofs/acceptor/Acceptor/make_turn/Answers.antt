@@ -3,6 +3,7 @@ use Rattle.std.specs.Prelude.{slice_index_or}
 use Rattle.server_acceptor.specs.Accepting.{refused}
 use Rattle.server_acceptor.proofs.DoesSteps.{proceeds_trans}
 use Rattle.server_acceptor.proofs.HandsDoes.{hands_proceeds}
+use Rattle.server_acceptor.proofs.LeaveSteps.{leaves_handed, leaves_trans}
 use Rattle.server_acceptor.proofs.NoteSteps.{ends_later}
 use Rattle.server_acceptor.proofs.PlacedDoes.{hands_failed}
 use Rattle.server_acceptor.proofs.TurnSteps.{in_turn_from, in_turn_none, is_some_of, once_each, unrefused_first}
@@ -14,7 +15,7 @@ returns-in-Some-clause-proceeds g c = hands_proceeds _ _ _ _ _ _ _ _ _ _ _ _ _ _
 pub returns-in-Some-clause-once : goal.returns-in-Some-clause-once
 returns-in-Some-clause-once g c =
     let same = hands_failed _ _ _ _ _ _ _ _ c.take_notes.ensures.hands in
-    once_each c.args.self.now.events.items c.take_notes.new.self.events.items c.take_notes.new.self.events.items c.requires.begins same (λ t. omega arith) (is_some_of (refused (Some []) c.take_notes.new.self.events.items) (unrefused_first c.args.self.now.events.items c.take_notes.new.self.events.items c.requires.begins c.take_notes.ensures.refused))
+    once_each c.args.self.now.events.items c.take_notes.new.self.events.items c.take_notes.new.self.events.items c.requires.none_failed same (λ t. omega arith) (is_some_of (refused (Some []) c.take_notes.new.self.events.items) (unrefused_first c.args.self.now.events.items c.take_notes.new.self.events.items c.requires.none_refused c.take_notes.ensures.refused))
 
 pub returns-in_default-place_one-clause-proceeds : goal.returns-in_default-place_one-clause-proceeds
 returns-in_default-place_one-clause-proceeds g c =
@@ -26,7 +27,7 @@ returns-in_default-place_one-clause-first g c = (c.place_one.ensures.none_asked 
 
 pub returns-in_default-place_one-clause-once : goal.returns-in_default-place_one-clause-once
 returns-in_default-place_one-clause-once g c =
-    once_each c.args.self.now.events.items c.take_notes.new.self.events.items c.place_one.new.self.events.items c.requires.begins (hands_failed _ _ _ _ _ _ _ _ c.take_notes.ensures.hands) (c.place_one.ensures.none_asked c.args.listeners.now.items).once c.place_one.ensures.refusals
+    once_each c.args.self.now.events.items c.take_notes.new.self.events.items c.place_one.new.self.events.items c.requires.none_failed (hands_failed _ _ _ _ _ _ _ _ c.take_notes.ensures.hands) (c.place_one.ensures.none_asked c.args.listeners.now.items).once c.place_one.ensures.refusals
 
 pub returns-in_default-place_one-clause-in_turn : goal.returns-in_default-place_one-clause-in_turn
 returns-in_default-place_one-clause-in_turn g c = in_turn_none _ _ _ c.args.listeners.now.items _ _ _
@@ -46,7 +47,7 @@ returns-then-not-may_accept-clause-first g c = (c.place_one.ensures.none_asked c
 
 pub returns-then-not-may_accept-clause-once : goal.returns-then-not-may_accept-clause-once
 returns-then-not-may_accept-clause-once g c =
-    once_each c.args.self.now.events.items c.take_notes.new.self.events.items c.place_one.new.self.events.items c.requires.begins (hands_failed _ _ _ _ _ _ _ _ c.take_notes.ensures.hands) (c.place_one.ensures.none_asked c.args.listeners.now.items).once c.place_one.ensures.refusals
+    once_each c.args.self.now.events.items c.take_notes.new.self.events.items c.place_one.new.self.events.items c.requires.none_failed (hands_failed _ _ _ _ _ _ _ _ c.take_notes.ensures.hands) (c.place_one.ensures.none_asked c.args.listeners.now.items).once c.place_one.ensures.refusals
 
 pub returns-clause-proceeds : goal.returns-clause-proceeds
 returns-clause-proceeds g c =
@@ -60,7 +61,7 @@ returns-clause-first g c = c.ask_all.ensures.first ∙ (c.place_one.ensures.none
 
 pub returns-clause-once : goal.returns-clause-once
 returns-clause-once g c =
-    once_each c.args.self.now.events.items c.place_one.new.self.events.items c.ask_all.new.self.events.items c.requires.begins (λ t. (c.place_one.ensures.none_asked c.args.listeners.now.items).others t (inr (omega arith)) ∙ hands_failed _ _ _ _ _ _ _ _ c.take_notes.ensures.hands t)
+    once_each c.args.self.now.events.items c.place_one.new.self.events.items c.ask_all.new.self.events.items c.requires.none_failed (λ t. (c.place_one.ensures.none_asked c.args.listeners.now.items).others t (inr (omega arith)) ∙ hands_failed _ _ _ _ _ _ _ _ c.take_notes.ensures.hands t)
     c.ask_all.ensures.once c.ask_all.ensures.refusals
 
 pub returns-clause-in_turn : goal.returns-clause-in_turn
@@ -70,9 +71,36 @@ returns-clause-in_turn g c =
     c.ask_all.ensures.in_turn
 
 pub returns-clause-settled : goal.returns-clause-settled
-returns-clause-settled g c is = let s = c.ask_all.ensures.settled is in (s.0, λ ready room. s.1)
+returns-clause-settled g c is = let s = c.ask_all.ensures.settled is in (s.0, λ ready room accepts idle. s.1)
 
 pub returns-clause-ended : goal.returns-clause-ended
 returns-clause-ended g c w is =
     let fault = c.ask_all.ensures.ended w is in
     (fault.0, ends_later _ _ _ w (c.take_notes.ensures.hands.receives w) (ends_later _ _ _ w ((c.place_one.ensures.proceeds c.args.listeners.now.items).does.receives w) fault.1))
+
+pub returns-then-not-idle-clause-proceeds : goal.returns-then-not-idle-clause-proceeds
+returns-then-not-idle-clause-proceeds g c =
+    proceeds_trans _ _ _ _ _ _ _ _ _ c.args.listeners.now.items c.args.listeners.now.items c.args.listeners.now.items _ _ _ _ _ _
+    (hands_proceeds _ _ _ _ _ _ _ _ _ _ _ _ _ _ (g.met.Do.Done.small c.args.done.now) c.take_notes.ensures.hands) (c.place_one.ensures.proceeds c.args.listeners.now.items)
+
+pub returns-then-not-idle-clause-first : goal.returns-then-not-idle-clause-first
+returns-then-not-idle-clause-first g c = (c.place_one.ensures.none_asked c.args.listeners.now.items).first ∙ c.take_notes.ensures.hands.first
+
+pub returns-then-not-idle-clause-once : goal.returns-then-not-idle-clause-once
+returns-then-not-idle-clause-once g c =
+    once_each c.args.self.now.events.items c.take_notes.new.self.events.items c.place_one.new.self.events.items c.requires.none_failed (hands_failed _ _ _ _ _ _ _ _ c.take_notes.ensures.hands) (c.place_one.ensures.none_asked c.args.listeners.now.items).once c.place_one.ensures.refusals
+
+pub returns-in-Some-clause-leaves : goal.returns-in-Some-clause-leaves
+returns-in-Some-clause-leaves g c = leaves_handed _ _ _ _ _ _ _ _ c.take_notes.ensures.hands
+
+pub returns-in_default-place_one-clause-leaves : goal.returns-in_default-place_one-clause-leaves
+returns-in_default-place_one-clause-leaves g c = leaves_trans c.args.self.now c.take_notes.new.self c.place_one.new.self (leaves_handed _ _ _ _ _ _ _ _ c.take_notes.ensures.hands) (c.place_one.ensures.none_asked c.args.listeners.now.items).leaves
+
+pub returns-then-not-idle-clause-leaves : goal.returns-then-not-idle-clause-leaves
+returns-then-not-idle-clause-leaves g c = leaves_trans c.args.self.now c.take_notes.new.self c.place_one.new.self (leaves_handed _ _ _ _ _ _ _ _ c.take_notes.ensures.hands) (c.place_one.ensures.none_asked c.args.listeners.now.items).leaves
+
+pub returns-then-not-may_accept-clause-leaves : goal.returns-then-not-may_accept-clause-leaves
+returns-then-not-may_accept-clause-leaves g c = leaves_trans c.args.self.now c.take_notes.new.self c.place_one.new.self (leaves_handed _ _ _ _ _ _ _ _ c.take_notes.ensures.hands) (c.place_one.ensures.none_asked c.args.listeners.now.items).leaves
+
+pub returns-clause-leaves : goal.returns-clause-leaves
+returns-clause-leaves g c = leaves_trans c.args.self.now c.place_one.new.self c.ask_all.new.self (leaves_trans c.args.self.now c.take_notes.new.self c.place_one.new.self (leaves_handed _ _ _ _ _ _ _ _ c.take_notes.ensures.hands) (c.place_one.ensures.none_asked c.args.listeners.now.items).leaves) c.ask_all.ensures.leaves

@@ -3,7 +3,7 @@ use Rattle.std.specs.Prelude.{is_some}
 use Rattle.server_acceptor.specs.declared.placed.Placed.TheVariants.{Sent, Waiting, Nothing}
 use Rattle.server_acceptor.proofs.DoesSteps.{proceeds_none, proceeds_trans}
 use Rattle.server_acceptor.proofs.HandsDoes.{hands_proceeds}
-use Rattle.server_acceptor.proofs.PlacedDoes.{asked_none, has_taken_sent, has_taken_waits, none_asked, placed_failed, placed_out, placed_over, placed_proceeds, refused_by_all, refused_sent, refused_waits}
+use Rattle.server_acceptor.proofs.PlacedDoes.{asked_none, has_taken_sent, has_taken_waits, none_asked, placed_failed, placed_leaves, placed_out, placed_over, placed_proceeds, refused_by_all, refused_sent, refused_waits}
 use Rattle.server_acceptor.proofs.acceptor.Acceptor.place_one.Goals as goal
 
 pub returns-then-is_short-clause-proceeds : goal.returns-then-is_short-clause-proceeds
@@ -16,7 +16,7 @@ pub returns-in-Waiting-clause-proceeds : goal.returns-in-Waiting-clause-proceeds
 returns-in-Waiting-clause-proceeds g c ls = placed_proceeds g.Li.Listener.given g.Li.Listener.left g.Li.Listener.rest g.L.Link.identity g.Li.Listener.ended g.Li.Listener.faults g.Do.Done.taken g.Do.Done.count g.Do.Done.served ls _ _ _ Waiting (g.met.Do.Done.small c.args.done.now) c.place.ensures.logs c.place.ensures.stays c.in-Waiting.ensures.placed
 
 pub returns-in-Waiting-clause-none_asked : goal.returns-in-Waiting-clause-none_asked
-returns-in-Waiting-clause-none_asked g c ls = none_asked ls c.args.self.now c.place.new.self c.place.ensures.stays.first c.place.ensures.stays.failed
+returns-in-Waiting-clause-none_asked g c ls = none_asked ls c.args.self.now c.place.new.self (placed_leaves g.L.Link.identity c.args.self.now c.place.new.self c.place.ensures.logs Waiting c.in-Waiting.ensures.placed c.place.ensures.stays) c.place.ensures.stays.first c.place.ensures.stays.failed
     (placed_over g.L.Link.identity _ _ c.place.ensures.logs Waiting c.in-Waiting.ensures.placed) (placed_failed g.L.Link.identity _ _ c.place.ensures.logs Waiting c.in-Waiting.ensures.placed)
 
 pub returns-in-Waiting-clause-refusals : goal.returns-in-Waiting-clause-refusals

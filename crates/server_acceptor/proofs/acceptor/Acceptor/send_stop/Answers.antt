@@ -1,22 +1,25 @@
-use Rattle.std.proofs.Common.{refl, rules, inl, inr, sym, ◌∙◌, true}
+use Rattle.std.proofs.Common.{true, inl, inr, refl, rules}
 use Rattle.server_jobs.specs.declared.parcel.Parcel.TheVariants.{Stop}
-use Rattle.std.proofs.lemmas.List.{get_or_default}
-use Rattle.server_acceptor.proofs.PlaceSteps.{keeps_sent, no_place_at, puts_at}
+use Rattle.server_acceptor.proofs.Sendings.{forced_kept, forced_put}
 use Rattle.server_acceptor.proofs.StopSteps.{stop_proceeds, stops_none}
 use Rattle.server_acceptor.proofs.acceptor.Acceptor.send_stop.Goals as goal
 
-pub returns-then-is_err-clause-proceeds : goal.returns-then-is_err-clause-proceeds
-returns-then-is_err-clause-proceeds g c ls d =
-    let k = keeps_sent _ c.args.w c.index_mut.result.now c.push.new.self c.index_mut.ensures.value c.push.ensures.ring (search rules) in
-    stop_proceeds _ _ _ _ _ _ _ _ _ ls _ _ d (g.met.Do.Done.small d) (search rules) (inl k) k.rings
+pub returns-then-index-clause-proceeds : goal.returns-then-index-clause-proceeds
+returns-then-index-clause-proceeds g c ls d = stop_proceeds g.Li.Listener.given g.Li.Listener.left g.Li.Listener.rest g.L.Link.identity g.Li.Listener.ended g.Li.Listener.faults g.Do.Done.taken g.Do.Done.count g.Do.Done.served ls c.args.self.now c.args.self.now d (g.met.Do.Done.small d) (stops_none _) (inl (record { rings = refl; sent_on = refl })) refl
 
-pub returns-then-is_err-clause-lacks : goal.returns-then-is_err-clause-lacks
-returns-then-is_err-clause-lacks g c = λ _. (search rules, get_or_default c.args.self.now.stopped.items c.args.w true c.index.result.now (search rules) ∙ sym c.index.ensures ∙ search rules, no_place_at _ c.args.w c.push.new.self (search rules) (search rules))
+pub returns-then-not-push_stop-clause-proceeds : goal.returns-then-not-push_stop-clause-proceeds
+returns-then-not-push_stop-clause-proceeds g c ls d =
+    let k = c.push_stop.ensures.keeps (search rules) in
+    stop_proceeds g.Li.Listener.given g.Li.Listener.left g.Li.Listener.rest g.L.Link.identity g.Li.Listener.ended g.Li.Listener.faults g.Do.Done.taken g.Do.Done.count g.Do.Done.served ls c.args.self.now c.push_stop.new.self d (g.met.Do.Done.small d) c.push_stop.ensures.only (inl k.0) k.0.rings
 
-pub returns-else-is_err-clause-proceeds : goal.returns-else-is_err-clause-proceeds
-returns-else-is_err-clause-proceeds g c ls d =
-    let k = puts_at _ c.args.w c.index_mut.result.now c.push.new.self (Stop true) (search rules) c.index_mut.ensures.value c.push.ensures.ring (search rules) in
-    stop_proceeds _ _ _ _ _ _ _ _ _ ls _ _ d (g.met.Do.Done.small d) (search rules) (inr (c.args.w, true, k)) k.rings
+pub returns-then-not-push_stop-clause-forces : goal.returns-then-not-push_stop-clause-forces
+returns-then-not-push_stop-clause-forces g c v is = forced_kept c.args.self.now.parcels.items c.push_stop.new.self.parcels.items (c.push_stop.ensures.keeps (search rules)).0 v is
 
-pub returns-else-not-index-clause-proceeds : goal.returns-else-not-index-clause-proceeds
-returns-else-not-index-clause-proceeds g c ls d = stop_proceeds _ _ _ _ _ _ _ _ _ ls _ _ d (g.met.Do.Done.small d) (stops_none _) (inl (record { rings = refl; sent_on = refl })) refl
+pub returns-clause-proceeds : goal.returns-clause-proceeds
+returns-clause-proceeds g c ls d =
+    let p = c.push_stop.ensures.puts (search rules) in
+    let o = c.push_stop.ensures.only in
+    stop_proceeds g.Li.Listener.given g.Li.Listener.left g.Li.Listener.rest g.L.Link.identity g.Li.Listener.ended g.Li.Listener.faults g.Do.Done.taken g.Do.Done.count g.Do.Done.served ls c.args.self.now _ d (g.met.Do.Done.small d) (record { core = o.core; events = o.events; notes = o.notes; ready = o.ready; waiting = o.waiting; serial = o.serial; places = o.places; failed = o.failed; first = o.first; retry_limit = o.retry_limit; shutdown_timeout = o.shutdown_timeout; lacks_room = o.lacks_room; stop = o.stop }) (inr (c.args.w, true, p)) p.rings
+
+pub returns-clause-forces : goal.returns-clause-forces
+returns-clause-forces g c v is = forced_put c.args.self.now.parcels.items c.push_stop.new.self.parcels.items c.args.w v (Stop true) refl (c.push_stop.ensures.puts (search rules)) is

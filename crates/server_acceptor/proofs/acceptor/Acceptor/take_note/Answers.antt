@@ -6,17 +6,17 @@ use Rattle.std.proofs.lemmas.List.Elements.{All-nil}
 use Rattle.server_acceptor.proofs.Giving.{adds_none}
 use Rattle.server_jobs.specs.Cards.{of_note}
 use Rattle.server_jobs.specs.declared.note.Note.TheVariants.{Ready, Back, Faulted}
-use Rattle.server_acceptor.proofs.HandSteps.{balance_same, balance_then, came_more, came_then, kept_notes, kept_then, noted_then, out_at_back, out_some, rings_then, same_ends, spare_left}
+use Rattle.server_acceptor.proofs.HandSteps.{balance_same, balance_then, came_more, came_then, founded_at_back, kept_notes, kept_then, noted_then, out_at_back, out_some, rings_then, same_ends, spare_left}
 use Rattle.server_acceptor.proofs.LogSteps.{logs_none}
 use Rattle.server_acceptor.proofs.NoteSteps.{fewer_known}
 use Rattle.server_acceptor.proofs.Taking.{all_marked, backs_more, count_as_none, count_as_one, has_still, marked_now, not_all_before, one_note, out_elsewhere, received_more, received_this, told_still}
 use Rattle.server_acceptor.proofs.acceptor.Acceptor.take_note.Goals as goal
 
 pub take-requires : goal.take-requires
-take-requires g c = out_some c.args.self.now.core.out c.args.w _ _ c.requires.number (out_at_back c.args.self.now.notes.items c.args.w _ c.index_mut.result.now c.pop_known.result _ c.in-Back.entry (omega (arith, c.requires.number, c.args.self.now.workers.1)) c.index_mut.ensures.value c.pop_known.ensures.received.1 c.in-Back.is c.requires.may) c.requires.spare
+take-requires g c = out_some c.args.self.now.core.out c.args.w _ _ c.requires.number (out_at_back c.args.self.now.notes.items c.args.w _ _ c.index_mut.result.now c.pop_known.result _ c.in-Back.entry (omega (arith, c.requires.number, c.args.self.now.workers.1)) c.index_mut.ensures.value c.pop_known.ensures.received.1 c.in-Back.is c.requires.may) c.requires.spare
 
 pub returns-in-Back-clause-spare : goal.returns-in-Back-clause-spare
-returns-in-Back-clause-spare g c = spare_left c.args.self.now.core c.lower.new.self.core c.args.w _ _ c.requires.number (out_at_back c.args.self.now.notes.items c.args.w _ c.index_mut.result.now c.pop_known.result _ c.in-Back.entry (omega (arith, c.requires.number, c.args.self.now.workers.1)) c.index_mut.ensures.value c.pop_known.ensures.received.1 c.in-Back.is c.requires.may) c.lower.ensures.out c.lower.ensures.core_waiting c.requires.spare c.take.ensures.spare
+returns-in-Back-clause-spare g c = spare_left c.args.self.now.core c.lower.new.self.core c.args.w _ _ c.requires.number (out_at_back c.args.self.now.notes.items c.args.w _ _ c.index_mut.result.now c.pop_known.result _ c.in-Back.entry (omega (arith, c.requires.number, c.args.self.now.workers.1)) c.index_mut.ensures.value c.pop_known.ensures.received.1 c.in-Back.is c.requires.may) c.lower.ensures.out c.lower.ensures.core_waiting c.requires.spare c.take.ensures.spare
 
 pub returns-in-Back-clause-hands : goal.returns-in-Back-clause-hands
 returns-in-Back-clause-hands g c =
@@ -29,15 +29,20 @@ returns-in-Back-clause-hands g c =
       rings = rings_then c.lower.new.self.notes.items c.args.self.now.notes.items c.args.w c.index_mut.result.now c.pop_known.new.self c.pop_known.result c.in-Back.entry c.lower.ensures.notes inside c.index_mut.ensures.value c.pop_known.ensures.received.0 c.in-Back.is c.pop_known.ensures.ring;
       back = λ h. came_then c.lower.new.self.notes.items c.args.self.now.notes.items c.args.w c.index_mut.result.now c.pop_known.new.self c.pop_known.result c.in-Back.entry c.lower.ensures.notes inside c.index_mut.ensures.value c.pop_known.ensures.received.0 c.in-Back.is g.L.Link.identity h;
       noted = noted_then c.lower.new.self.notes.items c.args.self.now.notes.items c.args.w c.index_mut.result.now c.pop_known.new.self c.pop_known.result c.in-Back.entry c.lower.ensures.notes inside c.index_mut.ensures.value c.pop_known.ensures.received.0 c.in-Back.is;
+      founded = founded_at_back c.args.self.now.notes.items c.args.w _ _ _ c.index_mut.result.now c.pop_known.result _ c.in-Back.entry inside c.index_mut.ensures.value c.pop_known.ensures.received.1 c.in-Back.is c.requires.may c.lower.ensures.stopping;
       kept = kept_then c.lower.new.self.notes.items c.args.self.now.notes.items c.args.w c.index_mut.result.now c.pop_known.new.self c.pop_known.result c.in-Back.entry c.lower.ensures.notes inside c.index_mut.ensures.value c.pop_known.ensures.received.0 c.in-Back.is;
-      balance = balance_then c.lower.new.self.notes.items c.args.self.now.notes.items c.args.w c.index_mut.result.now c.pop_known.new.self c.pop_known.result c.in-Back.entry c.lower.ensures.notes inside c.index_mut.ensures.value c.pop_known.ensures.received.0 c.in-Back.is g.L.Link.identity c.args.self.now.core.out c.lower.new.self.core.out c.requires.number (out_at_back c.args.self.now.notes.items c.args.w _ c.index_mut.result.now c.pop_known.result _ c.in-Back.entry (omega (arith, c.requires.number, c.args.self.now.workers.1)) c.index_mut.ensures.value c.pop_known.ensures.received.1 c.in-Back.is c.requires.may) c.lower.ensures.out;
+      balance = balance_then c.lower.new.self.notes.items c.args.self.now.notes.items c.args.w c.index_mut.result.now c.pop_known.new.self c.pop_known.result c.in-Back.entry c.lower.ensures.notes inside c.index_mut.ensures.value c.pop_known.ensures.received.0 c.in-Back.is g.L.Link.identity c.args.self.now.core.out c.lower.new.self.core.out c.requires.number (out_at_back c.args.self.now.notes.items c.args.w _ _ c.index_mut.result.now c.pop_known.result _ c.in-Back.entry (omega (arith, c.requires.number, c.args.self.now.workers.1)) c.index_mut.ensures.value c.pop_known.ensures.received.1 c.in-Back.is c.requires.may) c.lower.ensures.out;
       ended = c.lower.ensures.ended;
       core_waiting = c.lower.ensures.core_waiting;
       order = c.lower.ensures.order;
       paused = c.lower.ensures.paused;
+      stopping = c.lower.ensures.stopping;
       parcels = c.lower.ensures.parcels;
       waiting = c.lower.ensures.waiting;
       stopped = c.lower.ensures.stays.stopped;
+      forced = c.lower.ensures.stays.forced;
+      stop = c.lower.ensures.stays.stop;
+      shutdown_timeout = c.lower.ensures.stays.shutdown_timeout;
       serial = c.lower.ensures.stays.serial;
       places = c.lower.ensures.stays.places;
       failed = c.lower.ensures.stays.failed;
@@ -66,15 +71,20 @@ returns-in-Ready-clause-hands g c =
       rings = same_ends _ c.args.w _ _ _ inside is more c.pop_known.ensures.ring;
       back = λ h. came_more _ c.args.w _ _ _ inside is more g.L.Link.identity h ∙ ap (λ n. n) (omega (arith, ap (of_note g.L.Link.identity h) c.in-Ready.is));
       noted = All-nil _;
+      founded = All-nil _;
       kept = λ e. kept_notes _ c.args.w _ _ _ inside is more (Back e);
       balance = balance_same _ c.args.w _ _ _ inside is more g.L.Link.identity c.args.self.now.core.out (ap (of_note g.L.Link.identity (λ x. 1)) c.in-Ready.is);
       ended = refl;
       core_waiting = refl;
       order = refl;
       paused = refl;
+      stopping = refl;
       parcels = refl;
       waiting = refl;
       stopped = refl;
+      forced = refl;
+      stop = refl;
+      shutdown_timeout = refl;
       serial = refl;
       places = refl;
       failed = refl;
@@ -103,15 +113,20 @@ returns-in-Faulted-clause-hands g c =
       rings = same_ends _ c.args.w _ _ _ inside is more c.pop_known.ensures.ring;
       back = λ h. came_more _ c.args.w _ _ _ inside is more g.L.Link.identity h ∙ ap (λ n. n) (omega (arith, ap (of_note g.L.Link.identity h) c.in-Faulted.is));
       noted = All-nil _;
+      founded = All-nil _;
       kept = λ e. kept_notes _ c.args.w _ _ _ inside is more (Back e);
       balance = balance_same _ c.args.w _ _ _ inside is more g.L.Link.identity c.args.self.now.core.out (ap (of_note g.L.Link.identity (λ x. 1)) c.in-Faulted.is);
       ended = refl;
       core_waiting = refl;
       order = refl;
       paused = refl;
+      stopping = refl;
       parcels = refl;
       waiting = refl;
       stopped = refl;
+      forced = refl;
+      stop = refl;
+      shutdown_timeout = refl;
       serial = refl;
       places = refl;
       failed = refl;
@@ -142,17 +157,17 @@ pub returns-in-Back-clause-others : goal.returns-in-Back-clause-others
 returns-in-Back-clause-others g c v differ told =
     let inside : c.args.w < length c.args.self.now.notes.items = omega (arith, c.requires.number, c.args.self.now.workers.1) in
     told_still c.lower.new.self.notes.items c.args.self.now.notes.items c.args.w _ _ _ c.lower.ensures.notes inside c.index_mut.ensures.value c.pop_known.ensures.received.0
-    c.args.self.now.core.out c.lower.new.self.core.out v (out_elsewhere _ _ c.args.w v c.lower.ensures.out differ) differ told
+    c.args.self.now.core c.lower.new.self.core v c.lower.ensures.stopping (out_elsewhere _ _ c.args.w v c.lower.ensures.out differ) differ told
 
 pub returns-in-Ready-clause-others : goal.returns-in-Ready-clause-others
 returns-in-Ready-clause-others g c v differ told =
     let inside : c.args.w < length c.args.self.now.notes.items = omega (arith, c.requires.number, c.args.self.now.workers.1) in
-    told_still _ c.args.self.now.notes.items c.args.w _ _ _ refl inside c.index_mut.ensures.value c.pop_known.ensures.received.0 c.args.self.now.core.out c.args.self.now.core.out v refl differ told
+    told_still _ c.args.self.now.notes.items c.args.w _ _ _ refl inside c.index_mut.ensures.value c.pop_known.ensures.received.0 c.args.self.now.core c.args.self.now.core v refl refl differ told
 
 pub returns-in-Faulted-clause-others : goal.returns-in-Faulted-clause-others
 returns-in-Faulted-clause-others g c v differ told =
     let inside : c.args.w < length c.args.self.now.notes.items = omega (arith, c.requires.number, c.args.self.now.workers.1) in
-    told_still _ c.args.self.now.notes.items c.args.w _ _ _ refl inside c.index_mut.ensures.value c.pop_known.ensures.received.0 c.args.self.now.core.out c.args.self.now.core.out v refl differ told
+    told_still _ c.args.self.now.notes.items c.args.w _ _ _ refl inside c.index_mut.ensures.value c.pop_known.ensures.received.0 c.args.self.now.core c.args.self.now.core v refl refl differ told
 
 pub returns-in-Faulted-clause-faulted : goal.returns-in-Faulted-clause-faulted
 returns-in-Faulted-clause-faulted g c = λ _.
@@ -172,4 +187,4 @@ invariant_of-self-clause-workers g c =
     (w.0, length-set c.args.self.now.notes.items c.args.w c.pop_known.new.self ∙ w.1, length-set c.args.self.now.ready.items c.args.w true ∙ w.2, w.3)
 
 pub lower-requires-clause-out : goal.lower-requires-clause-out
-lower-requires-clause-out g c = out_at_back c.args.self.now.notes.items c.args.w _ c.index_mut.result.now c.pop_known.result _ c.in-Back.entry (omega (arith, c.requires.number, c.args.self.now.workers.1)) c.index_mut.ensures.value c.pop_known.ensures.received.1 c.in-Back.is c.requires.may
+lower-requires-clause-out g c = out_at_back c.args.self.now.notes.items c.args.w _ _ c.index_mut.result.now c.pop_known.result _ c.in-Back.entry (omega (arith, c.requires.number, c.args.self.now.workers.1)) c.index_mut.ensures.value c.pop_known.ensures.received.1 c.in-Back.is c.requires.may

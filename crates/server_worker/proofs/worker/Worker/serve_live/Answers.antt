@@ -1,5 +1,5 @@
 use Rattle.std.proofs.Common.{◌≡◌, rules, length}
-use Rattle.server_worker.proofs.ServeSteps.{serves_accounts, serves_no_ready, serves_polls, serves_sound, serves_tells}
+use Rattle.server_worker.proofs.ServeSteps.{serves_accounts, serves_no_ready, serves_polls, serves_sound, serves_stops, serves_tells}
 use Rattle.server_worker.proofs.worker.Worker.serve_live.Goals as goal
 
 pub returns-clause-sound : goal.returns-clause-sound
@@ -20,3 +20,6 @@ returns-clause-tells g c =
 
 pub returns-clause-no_ready : goal.returns-clause-no_ready
 returns-clause-no_ready g c = serves_no_ready _ _ _ _ _ _ _ _ _ _ c.poll_live.ensures.polls c.post.ensures.posts
+
+pub returns-clause-stops : goal.returns-clause-stops
+returns-clause-stops g c = serves_stops _ _ _ _ _ _ _ _ _ _ c.poll_live.ensures.polls c.post.ensures.posts

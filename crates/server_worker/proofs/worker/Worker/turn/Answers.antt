@@ -1,54 +1,85 @@
-use Rattle.worker_core.specs.WorkerCore.{state_of}
-use Rattle.std.proofs.Common.{ap, ◌∙◌, refl, rules}
-use Rattle.server_worker.proofs.AskSteps.{asks_unmade, is_unset}
+use Rattle.std.proofs.Common.{◌∙◌, refl, rules, sym, true, false, true≢false}
+use Rattle.server_worker.proofs.Accounting.{accounts_trans}
+use Rattle.server_worker.proofs.AskSteps.{asks_asking, asks_stopped}
+use Rattle.server_worker.proofs.ServeSteps.{turn_no_ready}
+use Rattle.server_worker.proofs.StopTurns.{taken_gives_up, taken_polls, taken_ready, taken_returns, taken_tells, taken_told}
 use Rattle.server_worker.proofs.TakeSteps.{queues_taken, receives_taken}
-use Rattle.server_worker.proofs.ServeSteps.{turn_accounts, turn_no_ready, turn_polls, turn_ready}
-use Rattle.server_worker.proofs.WorkSteps.{sound_of_more, works_made}
+use Rattle.server_worker.proofs.WorkSteps.{works_taken}
 use Rattle.server_worker.proofs.worker.Worker.turn.Goals as goal
 
-pub serve_live-requires : goal.serve_live-requires
-serve_live-requires g c =
-    record {
-      sound = sound_of_more g.F.Factory.Future.Future g.F.Factory.Service.Service g.F.Factory.Service.Future.Future g.F.Factory.Service.Future.LinkHolder.may_stand (g.F.ServerServiceFactory.may_serve c.args.self.now.factory) (g.F.ServerServiceFactory.may_leave c.args.self.now.factory) (g.F.ServerServiceFactory.may_ready c.args.self.now.factory) (g.F.ServerServiceFactory.may_init c.args.self.now.factory) (g.F.ServerServiceFactory.may_make c.args.self.now.factory)
-          _ _ _ _ _ (search rules) c.in-Some.ensures.as_many c.take-all.ensures.takes c.requires.works.connections;
-    }
+pub turn_after_stop-requires-clause-works : goal.turn_after_stop-requires-clause-works
+turn_after_stop-requires-clause-works g c = works_taken g.F.Factory.Future.Future g.F.Factory.Service.Service g.F.Factory.Service.Future.Future g.F.Factory.Service.Future.LinkHolder.may_stand (g.F.ServerServiceFactory.may_serve c.args.self.now.factory) (g.F.ServerServiceFactory.may_leave c.args.self.now.factory) (g.F.ServerServiceFactory.may_ready c.args.self.now.factory) (g.F.ServerServiceFactory.may_init c.args.self.now.factory) (g.F.ServerServiceFactory.may_make c.args.self.now.factory)
+    c.args.self.now.services _ c.args.self.now.hand _ _ (search rules) refl refl c.take-all.ensures.takes c.requires.works
 
-pub admit_ready-requires-clause-works : goal.admit_ready-requires-clause-works
-admit_ready-requires-clause-works g c =
-    works_made _ _ _ _ _ _ _ _ _ c.args.self.now.services _ c.args.self.now.hand _ _ (search rules) c.in-None.ensures.as_many refl c.in-None.ensures.waits c.in-None.ensures.slots c.take-all.ensures.takes c.requires.works
+pub turn_on-requires-clause-works : goal.turn_on-requires-clause-works
+turn_on-requires-clause-works g c = works_taken g.F.Factory.Future.Future g.F.Factory.Service.Service g.F.Factory.Service.Future.Future g.F.Factory.Service.Future.LinkHolder.may_stand (g.F.ServerServiceFactory.may_serve c.args.self.now.factory) (g.F.ServerServiceFactory.may_leave c.args.self.now.factory) (g.F.ServerServiceFactory.may_ready c.args.self.now.factory) (g.F.ServerServiceFactory.may_init c.args.self.now.factory) (g.F.ServerServiceFactory.may_make c.args.self.now.factory)
+    c.args.self.now.services _ c.args.self.now.hand _ _ (search rules) refl refl c.take-all.ensures.takes c.requires.works
 
-pub returns-in-None-clause-accounts : goal.returns-in-None-clause-accounts
-returns-in-None-clause-accounts g c = turn_accounts _ _ _ _ _ _ _ c.take-all.ensures.accounts c.take-all.ensures.takes c.admit_ready.ensures.admits c.tell_ready.ensures.owes c.serve_live-in-None.ensures.accounts c.serve_live-in-None.ensures.polls
+pub returns-then-self-clause-accounts : goal.returns-then-self-clause-accounts
+returns-then-self-clause-accounts g c = accounts_trans c.take-all.ensures.accounts c.turn_after_stop.ensures.accounts
 
-pub returns-in-None-clause-polls : goal.returns-in-None-clause-polls
-returns-in-None-clause-polls g c = turn_polls _ _ _ _ _ _ _ c.take-all.ensures.accounts c.take-all.ensures.takes c.admit_ready.ensures.admits c.tell_ready.ensures.owes c.serve_live-in-None.ensures.accounts c.serve_live-in-None.ensures.polls
+pub returns-then-self-clause-tells : goal.returns-then-self-clause-tells
+returns-then-self-clause-tells g c = taken_tells g.L.Link.identity _ c.args.self.now.hand c.take-all.new.self c.turn_after_stop.new.self.hand c.take-all.ensures.accounts c.take-all.ensures.takes _ _ _ _ c.turn_after_stop.ensures.tells
 
-pub returns-in-None-clause-came : goal.returns-in-None-clause-came
-returns-in-None-clause-came g c = receives_taken _ _ _ _ c.take-all.ensures.takes (c.serve_live-in-None.ensures.parcels ∙ c.tell_ready.ensures.owes.parcels ∙ c.admit_ready.ensures.admits.parcels)
-    (c.serve_live-in-None.ensures.stopped ∙ c.tell_ready.ensures.owes.stopped ∙ c.admit_ready.ensures.admits.stopped)
+pub returns-then-self-clause-came : goal.returns-then-self-clause-came
+returns-then-self-clause-came g c = receives_taken _ _ _ _ c.take-all.ensures.takes c.turn_after_stop.ensures.parcels (c.turn_after_stop.ensures.stopped ∙ sym c.if-self.true) c.turn_after_stop.ensures.forced
 
-pub returns-in-Some-clause-came : goal.returns-in-Some-clause-came
-returns-in-Some-clause-came g c = receives_taken _ _ _ _ c.take-all.ensures.takes c.serve_live.ensures.parcels c.serve_live.ensures.stopped
+pub returns-then-self-clause-ready : goal.returns-then-self-clause-ready
+returns-then-self-clause-ready g c = taken_ready g.L.Link.identity _ c.args.self.now.hand c.take-all.new.self c.turn_after_stop.new.self.hand c.take-all.ensures.accounts c.take-all.ensures.takes _ (turn_no_ready _ _ _ c.turn_after_stop.ensures.no_ready)
 
-pub returns-in-None-clause-ready : goal.returns-in-None-clause-ready
-returns-in-None-clause-ready g c = turn_ready _ _ _ _ _ _ _ c.take-all.ensures.takes c.admit_ready.ensures.admits c.tell_ready.ensures.owes c.serve_live-in-None.ensures.no_ready (search rules)
+pub returns-then-self-clause-polls : goal.returns-then-self-clause-polls
+returns-then-self-clause-polls g c unforced = taken_polls g.L.Link.identity _ c.args.self.now.hand c.take-all.new.self c.turn_after_stop.new.self.hand c.take-all.ensures.accounts c.take-all.ensures.takes (c.turn_after_stop.ensures.polls (sym c.turn_after_stop.ensures.forced ∙ unforced))
 
-pub returns-in-Some-clause-ready : goal.returns-in-Some-clause-ready
-returns-in-Some-clause-ready g c = turn_no_ready _ _ _ _ _ c.take-all.ensures.takes c.serve_live.ensures.no_ready
+pub returns-then-self-clause-unforced : goal.returns-then-self-clause-unforced
+returns-then-self-clause-unforced g c unforced h = taken_told g.L.Link.identity _ c.args.self.now.hand c.take-all.new.self c.turn_after_stop.new.self.hand c.take-all.ensures.accounts c.take-all.ensures.takes true h (c.turn_after_stop.ensures.unforced (sym c.turn_after_stop.ensures.forced ∙ unforced) h)
 
-pub returns-in-Some-clause-asks : goal.returns-in-Some-clause-asks
-returns-in-Some-clause-asks g c = asks_unmade _ _ _ _ _ c.serve_live.ensures.core (c.serve_live.ensures.made ∙ is_unset c.args.self.now.services.made _ c.requires.works.made c.in-Some.ensures.unmade)
+pub returns-then-self-clause-unstopped : goal.returns-then-self-clause-unstopped
+returns-then-self-clause-unstopped g c unstopped h = absurd (true≢false (sym c.turn_after_stop.ensures.stopped ∙ unstopped))
 
-pub returns-in-Some-clause-waits : goal.returns-in-Some-clause-waits
-returns-in-Some-clause-waits g c not_ready = queues_taken _ _ _ _ c.take-all.ensures.takes (ap (λ q. q.items) c.serve_live.ensures.queue)
+pub returns-then-self-clause-returns : goal.returns-then-self-clause-returns
+returns-then-self-clause-returns g c is = taken_returns g.L.Link.identity _ c.args.self.now.hand c.take-all.new.self c.turn_after_stop.new.self.hand c.take-all.ensures.accounts c.take-all.ensures.takes c.turn_after_stop.ensures.returns
 
-pub returns-in-None-clause-waits : goal.returns-in-None-clause-waits
-returns-in-None-clause-waits g c not_ready = queues_taken _ _ _ _ c.take-all.ensures.takes
-    (ap (λ q. q.items) (c.serve_live-in-None.ensures.queue ∙ c.tell_ready.ensures.owes.queue)
-    ∙ c.admit_ready.ensures.none (λ made available. not_ready
-    (c.serve_live-in-None.ensures.made ∙ ap (λ s. s.made) c.tell_ready.ensures.services ∙ made)
-    (ap state_of (c.serve_live-in-None.ensures.core ∙ ap (λ s. s.core) c.tell_ready.ensures.services) ∙ available)))
+pub returns-then-self-clause-gives_up : goal.returns-then-self-clause-gives_up
+returns-then-self-clause-gives_up g c is = taken_gives_up g.L.Link.identity _ c.args.self.now.hand c.take-all.new.self c.turn_after_stop.new.self.hand c.take-all.ensures.accounts c.take-all.ensures.takes (c.turn_after_stop.ensures.gives_up (sym c.turn_after_stop.ensures.forced ∙ is))
 
-pub returns-in-Some-clause-untold : goal.returns-in-Some-clause-untold
-returns-in-Some-clause-untold g c token error is = c.serve_live.ensures.no_ready.told ∙ c.take-all.ensures.takes.told_ready
-    ∙ is_unset c.args.self.now.hand.told _ (λ told. c.requires.works.made (c.requires.works.told told)) c.in-Some.ensures.unmade
+pub returns-then-self-clause-asks : goal.returns-then-self-clause-asks
+returns-then-self-clause-asks g c = asks_stopped _ _ _ _ _ _ c.turn_after_stop.ensures.core c.turn_after_stop.ensures.stopped
+
+pub returns-then-self-clause-waits : goal.returns-then-self-clause-waits
+returns-then-self-clause-waits g c unstopped not_ready = absurd (true≢false (sym c.turn_after_stop.ensures.stopped ∙ unstopped))
+
+pub returns-clause-accounts : goal.returns-clause-accounts
+returns-clause-accounts g c = accounts_trans c.take-all.ensures.accounts c.turn_on.ensures.accounts
+
+pub returns-clause-tells : goal.returns-clause-tells
+returns-clause-tells g c = taken_tells g.L.Link.identity _ c.args.self.now.hand c.take-all.new.self c.turn_on.new.self.hand c.take-all.ensures.accounts c.take-all.ensures.takes _ _ _ _ c.turn_on.ensures.tells
+
+pub returns-clause-came : goal.returns-clause-came
+returns-clause-came g c = receives_taken _ _ _ _ c.take-all.ensures.takes c.turn_on.ensures.parcels (c.turn_on.ensures.stopped ∙ sym c.if-self.false) c.turn_on.ensures.forced
+
+pub returns-clause-ready : goal.returns-clause-ready
+returns-clause-ready g c = taken_ready g.L.Link.identity _ c.args.self.now.hand c.take-all.new.self c.turn_on.new.self.hand c.take-all.ensures.accounts c.take-all.ensures.takes _ c.turn_on.ensures.ready
+
+pub returns-clause-polls : goal.returns-clause-polls
+returns-clause-polls g c unforced = taken_polls g.L.Link.identity _ c.args.self.now.hand c.take-all.new.self c.turn_on.new.self.hand c.take-all.ensures.accounts c.take-all.ensures.takes c.turn_on.ensures.polls
+
+pub returns-clause-unforced : goal.returns-clause-unforced
+returns-clause-unforced g c unforced h = taken_told g.L.Link.identity _ c.args.self.now.hand c.take-all.new.self c.turn_on.new.self.hand c.take-all.ensures.accounts c.take-all.ensures.takes true h (c.turn_on.ensures.stops true h)
+
+pub returns-clause-unstopped : goal.returns-clause-unstopped
+returns-clause-unstopped g c unstopped h = taken_told g.L.Link.identity _ c.args.self.now.hand c.take-all.new.self c.turn_on.new.self.hand c.take-all.ensures.accounts c.take-all.ensures.takes false h (c.turn_on.ensures.stops false h)
+
+pub returns-clause-returns : goal.returns-clause-returns
+returns-clause-returns g c is = absurd (true≢false (sym is ∙ c.turn_on.ensures.stopped))
+
+pub returns-clause-gives_up : goal.returns-clause-gives_up
+returns-clause-gives_up g c is = absurd (true≢false (sym (c.turn_on.new.self.hand.forces is) ∙ c.turn_on.ensures.stopped))
+
+pub returns-clause-asks : goal.returns-clause-asks
+returns-clause-asks g c = asks_asking _ _ _ _ _ _ c.turn_on.ensures.stopped c.turn_on.ensures.asks
+
+pub returns-clause-waits : goal.returns-clause-waits
+returns-clause-waits g c unstopped not_ready = queues_taken _ _ _ _ c.take-all.ensures.takes (c.turn_on.ensures.waits not_ready)
+
+pub returns-clause-unstarted : goal.returns-clause-unstarted
+returns-clause-unstarted g c token error is = let u = c.turn_on.ensures.unstarted token error is in (u.0, u.1, u.2, c.turn_on.ensures.stopped)

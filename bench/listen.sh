@@ -1,0 +1,8 @@
+#!/usr/bin/env bash
+# What a server over sockets is worth beside nginx, which answers the same words, without a policy: bench/listen.py says what is
+# measured. It takes some three minutes where the program is built. nginx, wrk, valgrind and strace are installed where they lack
+# and that can be done; else what wants them is left out, with a word.
+set -eu
+top=$(cd "$(dirname "${BASH_SOURCE[0]}")/.." && pwd)
+(cd "$top/crates/bench_listen" && rt run -- 127.0.0.1:0 0 1 < /dev/null >&2)
+PYTHONPATH="$top/bench:$top/checks" exec python3 -B "$top/bench/listen.py" "$top/crates/bench_listen/out/bench_listen"

@@ -1,0 +1,98 @@
+//! Jobs that wait for sockets, and the thread of their starter.
+use crate::idler::Idler;
+use server_bind::{BindFailed, Binder};
+use server_edge::{ReactorHost, ThreadSpawner};
+use server_jobs::{SeatTask, Spawner};
+use server_reactor::Reactor;
+use server_run::Host;
+use server_sockets::{MioBinder, SocketBindError, SocketListener};
+use std::alloc::{AllocError, Global};
+use std::io;
+use std::sync::atomic::AtomicBool;
+use std::sync::atomic::Ordering::SeqCst;
+use std::sync::{Arc, Wait};
+use std::test::Fail;
+
+// What an idler hands over that is stopped after its starter has rested. No thread for it is want of memory.
+fn handed_over<Ho: Host + 'static, Sp: Spawner>(
+    host: &Ho,
+    alloc: Global,
+    spawner: &mut Sp,
+) -> Result<(bool, bool), AllocError> {
+    let stop = Arc::new(alloc, AtomicBool::new(false))?;
+    let idler = Idler {
+        stop: Arc::try_clone(&stop)?,
+    };
+    let Ok(running) = spawner.start(host, idler) else {
+        return Err(AllocError);
+    };
+    spawner.rest(host, false);
+    spawner.rest(host, true);
+    stop.store(true, SeqCst);
+    spawner.ring(running.number());
+    Ok(running.join(host))
+}
+
+// A listener at a port of the system's choosing, or why there is none.
+fn bound<Ho: Host>(host: &Ho, binder: &mut MioBinder) -> io::Result<SocketListener> {
+    match binder.tcp(host, "127.0.0.1:0") {
+        Ok(listener) => Ok(listener),
+        Err(BindFailed) => match binder.last_error() {
+            Some(SocketBindError::System(error)) => Err(error),
+            _ => Err(io::ErrorKind::InvalidInput.into()),
+        },
+    }
+}
+
+// What is handed over by an idler with a reactor, which has a listener or not.
+fn with_reactor<Ho: Host + 'static>(
+    rt: &Ho,
+    alloc: Global,
+    listens: bool,
+) -> io::Result<(bool, bool)> {
+    let reactor = Arc::new(alloc, Reactor::new(rt, alloc)?)?;
+    let mut listener: Option<SocketListener> = None;
+    if listens {
+        let mut binder = MioBinder::over(Arc::try_clone(&reactor)?);
+        listener = Some(bound(rt, &mut binder)?);
+    }
+    let host = ReactorHost::over(rt.clone()?, Arc::try_clone(&reactor)?);
+    let mut spawner = ThreadSpawner::over(alloc, reactor)?;
+    let over = handed_over(&host, alloc, &mut spawner)?;
+    drop(listener);
+    Ok(over)
+}
+
+#[test]
+fn a_job_sleeps_in_its_host_until_it_is_rung_for(rt: HostRuntime) -> Result<(), Fail> {
+    assert!(rt; with_reactor(&rt, rt.alloc(), true)? == (true, true));
+    Ok(())
+}
+
+#[test]
+fn a_job_parks_where_nothing_listens(rt: HostRuntime) -> Result<(), Fail> {
+    assert!(rt; with_reactor(&rt, rt.alloc(), false)? == (true, false));
+    Ok(())
+}
+
+// The number of a seat's task, and whether it is over once its poll was ended.
+fn number_of<W: Wait>(rt: &W, alloc: Global, seat: usize) -> Result<(usize, bool), AllocError> {
+    let mut task = SeatTask::new(alloc, seat).ok_or(AllocError)?;
+    let cx = task.begin(rt).ok_or(AllocError)?;
+    let number = cx.task();
+    cx.cancel();
+    match task.begin(rt) {
+        None => Ok((number, true)),
+        Some(cx) => {
+            cx.cancel();
+            Ok((number, false))
+        }
+    }
+}
+
+#[test]
+fn a_task_has_the_number_of_its_seat(rt: HostRuntime) -> Result<(), Fail> {
+    assert!(rt; number_of(&rt, rt.alloc(), 0)? == (0, true));
+    assert!(rt; number_of(&rt, rt.alloc(), 7)? == (7, true));
+    Ok(())
+}

@@ -1,0 +1,4 @@
+pub mod Replaying
+pub mod Reported
+pub mod Running
+pub mod Summary

@@ -1,0 +1,29 @@
+use Rattle.std.proofs.Common.{true, false, inl, inr, refl, ◌∙◌, rules}
+use Rattle.std.proofs.Math.ListN.{length-set}
+use Rattle.server_acceptor.proofs.Sendings.{are_forced_marked, forced_now}
+use Rattle.server_acceptor.proofs.StopSteps.{stop_proceeds}
+use Rattle.server_acceptor.proofs.acceptor.Acceptor.send_force.Goals as goal
+
+pub returns-then-index-clause-proceeds : goal.returns-then-index-clause-proceeds
+returns-then-index-clause-proceeds g c ls d = stop_proceeds g.Li.Listener.given g.Li.Listener.left g.Li.Listener.rest g.L.Link.identity g.Li.Listener.ended g.Li.Listener.faults g.Do.Done.taken g.Do.Done.count g.Do.Done.served ls c.args.self.now _ d (g.met.Do.Done.small d) (record { core = refl; events = refl; notes = refl; ready = refl; waiting = refl; serial = refl; places = refl; failed = refl; first = refl; retry_limit = refl; shutdown_timeout = refl; lacks_room = refl; stop = refl }) (inl (record { rings = refl; sent_on = refl })) refl
+
+pub returns-then-not-push_stop-clause-proceeds : goal.returns-then-not-push_stop-clause-proceeds
+returns-then-not-push_stop-clause-proceeds g c ls d =
+    let k = c.push_stop.ensures.keeps (search rules) in
+    stop_proceeds g.Li.Listener.given g.Li.Listener.left g.Li.Listener.rest g.L.Link.identity g.Li.Listener.ended g.Li.Listener.faults g.Do.Done.taken g.Do.Done.count g.Do.Done.served ls c.args.self.now c.push_stop.new.self d (g.met.Do.Done.small d) c.push_stop.ensures.only (inl k.0) k.0.rings
+
+pub returns-clause-proceeds : goal.returns-clause-proceeds
+returns-clause-proceeds g c ls d =
+    let p = c.push_stop.ensures.puts (search rules) in
+    let o = c.push_stop.ensures.only in
+    stop_proceeds g.Li.Listener.given g.Li.Listener.left g.Li.Listener.rest g.L.Link.identity g.Li.Listener.ended g.Li.Listener.faults g.Do.Done.taken g.Do.Done.count g.Do.Done.served ls c.args.self.now _ d (g.met.Do.Done.small d) (record { core = o.core; events = o.events; notes = o.notes; ready = o.ready; waiting = o.waiting; serial = o.serial; places = o.places; failed = o.failed; first = o.first; retry_limit = o.retry_limit; shutdown_timeout = o.shutdown_timeout; lacks_room = o.lacks_room; stop = o.stop }) (inr (c.args.w, false, p)) p.rings
+
+pub invariant_of-self-2-clause-forced_sent : goal.invariant_of-self-2-clause-forced_sent
+invariant_of-self-2-clause-forced_sent g c = are_forced_marked c.push_stop.new.self.parcels.items c.push_stop.new.self.forced.items c.args.w
+    (forced_now c.args.self.now.parcels.items c.push_stop.new.self.parcels.items c.args.w (c.push_stop.ensures.puts (search rules))) c.push_stop.new.self.forced_sent
+
+pub invariant_of-self-2-clause-workers : goal.invariant_of-self-2-clause-workers
+invariant_of-self-2-clause-workers g c = let w = c.push_stop.new.self.workers in (w.0, w.1, w.2, length-set c.push_stop.new.self.stopped.items c.args.w true ∙ w.3)
+
+pub invariant_of-self-2-clause-as_many_forced : goal.invariant_of-self-2-clause-as_many_forced
+invariant_of-self-2-clause-as_many_forced g c = length-set c.push_stop.new.self.forced.items c.args.w true ∙ c.push_stop.new.self.as_many_forced

@@ -1,0 +1,4 @@
+pub mod FlagSteps
+pub mod ScriptSteps
+pub mod Waiting
+pub mod Owing

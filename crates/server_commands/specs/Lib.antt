@@ -1,0 +1,9 @@
+pub mod Commands
+pub mod Steps
+pub mod Scripts
+pub mod Flags
+pub mod Replies
+pub mod Posts
+pub mod Handles
+pub mod Signalled
+pub mod Signals

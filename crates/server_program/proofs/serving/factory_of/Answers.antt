@@ -1,5 +1,0 @@
-use Rattle.std.proofs.Common.{rules}
-use Rattle.server_program.proofs.serving.factory_of.Goals as goal
-
-pub returns-clause-cors : goal.returns-clause-cors
-returns-clause-cors c = search rules

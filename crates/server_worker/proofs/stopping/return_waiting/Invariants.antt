@@ -1,0 +1,11 @@
+use Rattle.std.proofs.Common.{◌+◌, vec_len}
+use Rattle.std.specs.VecDeque.{deque_len}
+use Rattle.server_worker.specs.Sound.{IsSound}
+use Rattle.server_worker.specs.Stopping.{GivesBack}
+use Rattle.server_worker.proofs.stopping.return_waiting.Given as goal
+
+abbrev pub invariant-loop : goal.invariant-loop
+invariant-loop g l = GivesBack g.L.Link.identity l.fn.hand l.hand × IsSound g.F.Factory.Service.Future.Future g.F.Factory.Service.Future.LinkHolder.may_stand (g.F.ServerServiceFactory.may_serve l.fn.factory) (g.F.ServerServiceFactory.may_leave l.fn.factory) (g.F.ServerServiceFactory.may_make l.fn.factory) l.listeners l.hand
+
+abbrev pub decreases-loop : goal.decreases-loop
+decreases-loop g l = deque_len l.hand.queue + vec_len l.hand.strays

@@ -1,0 +1,15 @@
+-- What the connections give.
+use Rattle.std.specs.Prelude.{◌≡◌, Result}
+use Rattle.service_core.specs.Holding.{OfKept}
+use Rattle.service_core.specs.declared.ended.Ended.{Ended}
+use Rattle.service_core.specs.declared.link.Link.{Ghosts as LinkOf}
+use Rattle.server_run.specs.Creating.{OnlyEnds}
+use Rattle.stoppable_service.specs.declared.answering.Answering.{Answering}
+
+-- a connection ends with its link, and never errs
+abbrev pub EndsOf : {L E : Type 0} → LinkOf L → L → Result (Ended L) E → Type 0
+EndsOf g link = OnlyEnds (λ ended. g.identity ended.link ≡ g.identity link)
+
+-- what a connection under way may give: an end of the link that it has
+abbrev pub GivesBack : {L W E : Type 0} → LinkOf L → Answering L W → Result (Ended L) E → Type 0
+GivesBack g f r = OfKept f.link (λ link. EndsOf g link r)
