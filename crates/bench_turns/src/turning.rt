@@ -23,9 +23,9 @@ const MOST_TURNS: u32 = 8;
 fn go_on<F>(worker: &mut Worker<SmallLink, F>, cx: &mut Context<'_>) -> Result<(), Failure>
 where
     F: ServerServiceFactory<SmallLink, Factory: ServiceFactory<SmallLink, InitError: Drop>>,
-    requires { Goes F.Factory.Future.Future F.Factory.Service.Service F.Factory.Service.Future.Future F.Factory.Service.Future.may_stand
+    requires { Goes F.Factory.ServiceFactory F.Factory.Future.Future F.Factory.Service.Service F.Factory.Service.Future.Future F.Factory.Service.Future.may_stand
         F.may_serve F.may_leave F.may_ready F.may_init F.may_make worker.old }
-    ensures { OnOk result (Goes F.Factory.Future.Future F.Factory.Service.Service F.Factory.Service.Future.Future F.Factory.Service.Future.may_stand
+    ensures { OnOk result (Goes F.Factory.ServiceFactory F.Factory.Future.Future F.Factory.Service.Service F.Factory.Service.Future.Future F.Factory.Service.Future.may_stand
         F.may_serve F.may_leave F.may_ready F.may_init F.may_make worker.new) }
 {
     match worker.turn(cx) {
@@ -43,9 +43,9 @@ fn turn_on<F>(
 ) -> Result<(), Failure>
 where
     F: ServerServiceFactory<SmallLink, Factory: ServiceFactory<SmallLink, InitError: Drop>>,
-    requires { Goes F.Factory.Future.Future F.Factory.Service.Service F.Factory.Service.Future.Future F.Factory.Service.Future.may_stand
+    requires { Goes F.Factory.ServiceFactory F.Factory.Future.Future F.Factory.Service.Service F.Factory.Service.Future.Future F.Factory.Service.Future.may_stand
         F.may_serve F.may_leave F.may_ready F.may_init F.may_make worker.old }
-    ensures { OnOk result (Goes F.Factory.Future.Future F.Factory.Service.Service F.Factory.Service.Future.Future F.Factory.Service.Future.may_stand
+    ensures { OnOk result (Goes F.Factory.ServiceFactory F.Factory.Future.Future F.Factory.Service.Service F.Factory.Service.Future.Future F.Factory.Service.Future.may_stand
         F.may_serve F.may_leave F.may_ready F.may_init F.may_make worker.new) }
 {
     for _ in 0..turns {
@@ -64,7 +64,7 @@ fn wait<F>(
 ) -> Result<u64, Failure>
 where
     F: ServerServiceFactory<SmallLink, Factory: ServiceFactory<SmallLink, InitError: Drop>>,
-    requires { Goes F.Factory.Future.Future F.Factory.Service.Service F.Factory.Service.Future.Future F.Factory.Service.Future.may_stand
+    requires { Goes F.Factory.ServiceFactory F.Factory.Future.Future F.Factory.Service.Service F.Factory.Service.Future.Future F.Factory.Service.Future.may_stand
         F.may_serve F.may_leave F.may_ready F.may_init F.may_make worker.old }
 {
     for _ in 0..connections {
@@ -88,9 +88,9 @@ fn serve_one<F>(
 ) -> Result<(), Failure>
 where
     F: ServerServiceFactory<SmallLink, Factory: ServiceFactory<SmallLink, InitError: Drop>>,
-    requires { Goes F.Factory.Future.Future F.Factory.Service.Service F.Factory.Service.Future.Future F.Factory.Service.Future.may_stand
+    requires { Goes F.Factory.ServiceFactory F.Factory.Future.Future F.Factory.Service.Service F.Factory.Service.Future.Future F.Factory.Service.Future.may_stand
         F.may_serve F.may_leave F.may_ready F.may_init F.may_make worker.old }
-    ensures { OnOk result (Goes F.Factory.Future.Future F.Factory.Service.Service F.Factory.Service.Future.Future F.Factory.Service.Future.may_stand
+    ensures { OnOk result (Goes F.Factory.ServiceFactory F.Factory.Future.Future F.Factory.Service.Service F.Factory.Service.Future.Future F.Factory.Service.Future.may_stand
         F.may_serve F.may_leave F.may_ready F.may_init F.may_make worker.new) }
 {
     ends.send(SmallLink::asking())?;
@@ -113,7 +113,7 @@ fn serve<F>(
 ) -> Result<u64, Failure>
 where
     F: ServerServiceFactory<SmallLink, Factory: ServiceFactory<SmallLink, InitError: Drop>>,
-    requires { Goes F.Factory.Future.Future F.Factory.Service.Service F.Factory.Service.Future.Future F.Factory.Service.Future.may_stand
+    requires { Goes F.Factory.ServiceFactory F.Factory.Future.Future F.Factory.Service.Service F.Factory.Service.Future.Future F.Factory.Service.Future.may_stand
         F.may_serve F.may_leave F.may_ready F.may_init F.may_make worker.old }
 {
     for _ in 0..connections {
@@ -131,7 +131,7 @@ fn carry<F>(
 ) -> Result<u64, Failure>
 where
     F: ServerServiceFactory<SmallLink, Factory: ServiceFactory<SmallLink, InitError: Drop>>,
-    requires { Goes F.Factory.Future.Future F.Factory.Service.Service F.Factory.Service.Future.Future F.Factory.Service.Future.may_stand
+    requires { Goes F.Factory.ServiceFactory F.Factory.Future.Future F.Factory.Service.Service F.Factory.Service.Future.Future F.Factory.Service.Future.may_stand
         F.may_serve F.may_leave F.may_ready F.may_init F.may_make worker.old }
 {
     match load {

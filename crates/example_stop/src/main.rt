@@ -46,9 +46,8 @@ fn answer<Ho: Host + 'static>(rt: &Ho, alloc: Global, addr: &str) -> Option<Clos
     let builder = server::new(alloc).ok()?.workers(2);
     let mut listeners = listeners_at(&host, alloc, &builder, reactor, addr)?;
     let mut commands = builder.handle_commands(rt).ok()?;
-    let stop = Arc::new(alloc, StopHandle::new(rt.clone().ok()?)).ok()?;
-    let server = builder.run(Stoppables::new(Arc::try_clone(&stop).ok()?));
-    stop.register(server.handle().ok()?);
+    let stop = StopHandle::new(rt.clone().ok()?, builder.handle().ok()?);
+    let server = builder.run(Stoppables::new(Arc::new(alloc, stop).ok()?));
     let mut done = CloseAll::new();
     server
         .serve(

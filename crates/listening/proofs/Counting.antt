@@ -7,7 +7,8 @@ use Rattle.std.proofs.lemmas.List.Elements.{All-cons, All-head, All-nil, All-tai
 use Rattle.std.proofs.lemmas.List.Sums.{sum_by-cons}
 use Rattle.std.proofs.lemmas.Option.{same_Some}
 use Rattle.server_run.specs.Delivery.{once_below, place_count}
-use Rattle.server_run.specs.Done.{is_served, served_count}
+use Rattle.server_run.specs.Outcome.{is_served}
+use Rattle.server_run.specs.Done.{served_count}
 use Rattle.server_run.specs.declared.entry.Entry.{Entry}
 
 one_more : (b : Bool) (place n : ℕ) → cond (b && nat_lt place (n + 1)) 1 0 ≡ cond (b && nat_lt place n) 1 0 + cond (b && (place == n)) 1 0

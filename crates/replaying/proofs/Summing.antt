@@ -4,7 +4,8 @@ use Rattle.std.proofs.lemmas.List.Elements.{All-head, All-tail}
 use Rattle.std.proofs.lemmas.List.Sums.{sum_by-cons}
 use Rattle.http1_dispatcher.proofs.Written.{never_up}
 use Rattle.report.specs.Told.{Told}
-use Rattle.report.specs.Summary.{byte_count, is_served, served_count}
+use Rattle.server_run.specs.Outcome.{is_served}
+use Rattle.report.specs.Summary.{byte_count, served_count}
 use Rattle.script.specs.Planned.{Planned, held_of}
 use Rattle.script_service.specs.Sites.{Site, functions_at, rules_at}
 use Rattle.server_run.specs.declared.outcome.Outcome.{Outcome}

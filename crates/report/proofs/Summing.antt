@@ -5,7 +5,8 @@ use Rattle.std.proofs.lemmas.List.Sorted.{IsPermutation-map, sum_by-IsPermutatio
 use Rattle.server_run.specs.declared.entry.Entry.{Entry}
 use Rattle.server_run.specs.declared.memory_link.MemoryLink.{MemoryLink}
 use Rattle.report.specs.Report.{entries_of}
-use Rattle.report.specs.Summary.{byte_count, is_served, served_count}
+use Rattle.server_run.specs.Outcome.{is_served}
+use Rattle.report.specs.Summary.{byte_count, served_count}
 use Rattle.report.specs.Told.{Told, told_by}
 
 -- as many were served in any order

@@ -1,20 +1,10 @@
 -- The summary of a run.
-use Rattle.std.specs.Prelude.{ℕ, Bool, true, false, List, ◌∷◌, ◌++◌, length, codes, decimal}
+use Rattle.std.specs.Prelude.{ℕ, List, ◌∷◌, ◌++◌, length, codes, decimal}
 use Rattle.std.specs.List.{count_by, sum_by}
-use Rattle.server_run.specs.declared.outcome.Outcome.{Outcome}
-use Rattle.server_run.specs.declared.outcome.Outcome.TheVariants.{Served, ReadFault, WriteFault, Upgraded, Stopped, Memory}
+use Rattle.server_run.specs.Outcome.{is_served}
 use Rattle.server_run.specs.declared.report.End.{End}
 use Rattle.report.specs.Report.{end_line}
 use Rattle.report.specs.Told.{Told}
-
--- this connection was served
-abbrev pub is_served : Outcome → Bool
-is_served Served = true
-is_served ReadFault = false
-is_served WriteFault = false
-is_served Upgraded = false
-is_served (Stopped forced) = false
-is_served Memory = false
 
 -- how many of these connections were served
 abbrev pub served_count : List Told → ℕ

@@ -1,10 +1,10 @@
 //! The summary of a run.
 ghost use Rattle.std.specs.Prelude.{◌≡◌, [], ◌∷◌, ◌++◌, map, length, decimal, IfOk, OnOk};
 ghost use Rattle.report.specs.Told.{told_by};
-ghost use Rattle.report.specs.Summary.{is_served, served_count, byte_count, summary_of, short_summary_of};
+ghost use Rattle.report.specs.Summary.{served_count, byte_count, summary_of, short_summary_of};
 
 use crate::report::end_line;
-use server_run::{End, Entry, MemoryLink, Outcome};
+use server_run::{End, Entry, MemoryLink};
 use service_core::Octets;
 use std::alloc::{AllocError, Global};
 
@@ -60,14 +60,8 @@ fn served_count(entries: &[Entry<MemoryLink>]) -> usize
 {
     entries
         .iter()
-        .filter(|entry| is_served(entry.outcome))
+        .filter(|entry| entry.outcome.is_served())
         .count()
-}
-
-fn is_served(outcome: Outcome) -> bool
-    ensures { result ≡ is_served outcome }
-{
-    matches!(outcome, Outcome::Served)
 }
 
 // How many bytes were written on all connections.

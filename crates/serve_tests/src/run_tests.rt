@@ -1,8 +1,7 @@
 //! Runs that serve.
-use crate::answer::Answer;
-use crate::answer::Answer::{Fail as Fails, Give, NotYet, Skip};
-use crate::plan::{PLAIN, Plan};
 use crate::serving::{come_in_order, come_to};
+use serve_stage::Answer::{Fail as Fails, Give, NotYet, Skip};
+use serve_stage::{Answer, PLAIN, Plan};
 use std::test::Fail;
 
 #[test]

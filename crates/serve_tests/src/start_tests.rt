@@ -1,8 +1,7 @@
 //! Runs that serve nothing.
-use crate::answer::Answer;
-use crate::answer::Answer::{Give, NotYet, Skip};
-use crate::plan::{PLAIN, Plan};
 use crate::serving::come_to;
+use serve_stage::Answer::{Give, NotYet, Skip};
+use serve_stage::{Answer, PLAIN, Plan};
 use std::test::Fail;
 
 #[test]

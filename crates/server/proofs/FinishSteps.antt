@@ -48,7 +48,8 @@ use Rattle.server_acceptor.specs.Beginning.{IsNew}
 use Rattle.server_acceptor.specs.Carrying.{Carries, IsLetGo, came_back, each, has_place, in_waiting, let_gone, put}
 use Rattle.server_acceptor.specs.Notes.{count_back}
 use Rattle.server_acceptor.specs.Rings.{ring_in, ring_out}
-use Rattle.server_acceptor.specs.Sending.{IsForced, is_force as is_force_message}
+use Rattle.server_acceptor.specs.Sending.{IsForced}
+use Rattle.server_jobs.specs.Parcels.{is_force}
 use Rattle.server_acceptor.specs.States.{IsStateOf}
 use Rattle.server_core.specs.Core.{Core}
 use Rattle.server_acceptor.specs.declared.acceptor.Acceptor.{Acceptor}
@@ -148,7 +149,7 @@ no_some (Some x) none some = cc
 none_forced : {L : Type 0} (ps : List (Producer (Parcel L) Global AnyItems)) → All (λ p. sent p ≡ []) ps → (w : ℕ) → IsForced ps w → ⊥
 none_forced [] unsent w is = omega (arith, is)
 none_forced {L = L} (p ∷ ps) unsent zero is =
-    let some : 0 < count_by (is_force_message {L = L}) [] = subst (λ (items : List (Parcel L)). 0 < count_by (is_force_message {L = L}) items) (All-head (λ p. sent p ≡ []) p ps unsent) is in omega (arith, some)
+    let some : 0 < count_by (is_force {L = L}) [] = subst (λ (items : List (Parcel L)). 0 < count_by (is_force {L = L}) items) (All-head (λ p. sent p ≡ []) p ps unsent) is in omega (arith, some)
 none_forced (p ∷ ps) unsent (suc w) is = none_forced ps (All-tail (λ p. sent p ≡ []) p ps unsent) w is
 
 pub untold_start : {L F E I : Type 0} (may_serve : F → ℕ → L → Ended L → Type 0) (may_leave : F → ℕ → L → L → Type 0) (may_ready : F → ℕ → Readiness E → Type 0) (may_init : F → ℕ → I → Type 0) (may_make : F → ℕ → Type 0)

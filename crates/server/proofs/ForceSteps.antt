@@ -16,26 +16,26 @@ use Rattle.server_jobs.specs.declared.note.Note.{Note}
 use Rattle.server_jobs.specs.declared.parcel.Parcel.{Parcel}
 use Rattle.server_jobs.specs.declared.parcel.Parcel.TheVariants.{Conn, Stop}
 use Rattle.server_jobs.specs.declared.running.Running.{Running}
-use Rattle.server_worker.specs.Stops.{is_force}
+use Rattle.server_jobs.specs.Parcels.{is_force}
 use Rattle.server_acceptor.specs.Accepting.{Finishes}
 use Rattle.server_acceptor.specs.Acceptors.{core_of, shutdown_timeout_of, stop_of}
-use Rattle.server_acceptor.specs.Sending.{IsForced, is_force as is_force_message}
+use Rattle.server_acceptor.specs.Sending.{IsForced}
 use Rattle.server_acceptor.specs.declared.acceptor.Acceptor.{Acceptor}
 use Rattle.server_acceptor.specs.declared.stop.Stop.{Stop as FirstStop}
 use Rattle.server.specs.Rows.{lines_of}
 use Rattle.server.specs.Stopping.{InTime}
 
 -- one is among these parcels
-any_counts : {L : Type 0} (parcels : List (Parcel L)) → list_any is_force parcels ≡ true → 0 < count_by is_force_message parcels
+any_counts : {L : Type 0} (parcels : List (Parcel L)) → list_any is_force parcels ≡ true → 0 < count_by is_force parcels
 any_counts [] is = cc
 any_counts (Conn s t p link ∷ parcels) is =
     let rest = any_counts parcels is in
-    let more = sum_by-cons (λ (x : Parcel _). cond (is_force_message x) 1 0) (Conn s t p link) parcels in omega (arith, rest, more)
+    let more = sum_by-cons (λ (x : Parcel _). cond (is_force x) 1 0) (Conn s t p link) parcels in omega (arith, rest, more)
 any_counts (Stop true ∷ parcels) is =
     let rest = any_counts parcels is in
-    let more = sum_by-cons (λ (x : Parcel _). cond (is_force_message x) 1 0) (Stop true) parcels in omega (arith, rest, more)
+    let more = sum_by-cons (λ (x : Parcel _). cond (is_force x) 1 0) (Stop true) parcels in omega (arith, rest, more)
 any_counts (Stop false ∷ parcels) is =
-    let more = sum_by-cons (λ (x : Parcel _). cond (is_force_message x) 1 0) (Stop false) parcels in omega (arith, more)
+    let more = sum_by-cons (λ (x : Parcel _). cond (is_force x) 1 0) (Stop false) parcels in omega (arith, more)
 
 -- a line to whose worker one was put
 forced_line : {L J O : Type 0} (ps : List (Producer (Parcel L) Global AnyItems)) (ns : List (Consumer (Note L) Global AnyItems)) (rs : List (Running J O)) (l : Line L J O) (k : ℕ)

@@ -1,6 +1,6 @@
 -- Commands of many turns, and what they come to.
 use Rattle.std.proofs.Common.{◌≡◌, ◌≤◌, ◌++◌, ◌∷◌, [], ℕ, ◌+◌, ◌*◌, Bool, true, false, cond, List, Option, None, Some, IfSome, refl, sym, ◌∙◌, ap, arith, subst, append_assoc, inl, inr}
-use Rattle.std.specs.Prelude.{◌⊎◌, Err, IfOk, IsSomeAnd, Ok, Result, count_by}
+use Rattle.std.specs.Prelude.{◌⊎◌, Err, IfOk, IsSomeAnd, Ok, OnErr, Result, count_by}
 use Rattle.std.specs.FinSet as set
 use Rattle.std.specs.Option.{option_map}
 use Rattle.std.proofs.lemmas.List.{append-nil}
@@ -24,7 +24,7 @@ use Rattle.server_run.specs.declared.report.End.{End}
 use Rattle.server_run.specs.declared.report.Report.{Report}
 use Rattle.server_run.specs.declared.report.End.TheVariants.{Drained, Stopped, Memory}
 use Rattle.server.specs.Accepting.{Hears}
-use Rattle.server.specs.Stopping.{AddedOwn, Commanded, EndsBy, InTime, IsTold, IsUntold, paused_from, stop_from}
+use Rattle.server.specs.Stopping.{AddedOwn, Commanded, EndsBy, Gave, InTime, IsTold, IsUntold, paused_from, stop_from}
 
 -- ---- lists of commands, one behind the other
 stop_append : (first : Option Bool) (xs ys : List Command) → stop_from first (xs ++ ys) ≡ stop_from (stop_from first xs) ys
@@ -357,3 +357,19 @@ pub answer_settled : {Co E : Type 0} (given : Co → Option (List Command)) (sto
     → IfOk answer (λ report. IsTold given stops ended before after report.end)
 answer_settled given stops ended before mid after (Ok report) told same_given same_stops same_ended = told_settled given stops ended before mid after report.end told same_given same_stops same_ended
 answer_settled given stops ended before mid after (Err error) told same_given same_stops same_ended = tt
+
+-- ---- what came before an error
+pub gave_none : {Co : Type 0} (given : Co → Option (List Command)) (stops : Co → ℕ) (source : Co) → Gave given stops source source
+gave_none given stops source = record { came = []; given_more = given_none (given source); stops_more = refl }
+
+pub gave_on : {Co R E : Type 0} (given : Co → Option (List Command)) (stops : Co → ℕ) (source : Co) (answer : Result R E) → OnErr answer (Gave given stops source source)
+gave_on given stops source (Ok value) = tt
+gave_on given stops source (Err error) = gave_none given stops source
+
+pub gave : {Co : Type 0} (given : Co → Option (List Command)) (stops : Co → ℕ) (ended : Co → Bool) (before after : Co) (s : Core) → Commanded given stops ended before after s → Gave given stops before after
+gave given stops ended before after s so_far = record { came = so_far.came; given_more = so_far.given_more; stops_more = so_far.stops_more }
+
+pub gave_settled : {Co R E : Type 0} (given : Co → Option (List Command)) (stops : Co → ℕ) (before mid after : Co) (answer : Result R E)
+    → OnErr answer (Gave given stops before mid) → given after ≡ given mid → stops after ≡ stops mid → OnErr answer (Gave given stops before after)
+gave_settled given stops before mid after (Ok report) heard same_given same_stops = tt
+gave_settled given stops before mid after (Err error) heard same_given same_stops = record { came = heard.came; given_more = same_given ∙ heard.given_more; stops_more = same_stops ∙ heard.stops_more }

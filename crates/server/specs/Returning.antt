@@ -13,7 +13,8 @@ use Rattle.server_jobs.specs.declared.line.Line.{Line}
 use Rattle.server_jobs.specs.declared.parcel.Parcel.{Parcel}
 use Rattle.server_jobs.specs.declared.parcel.Parcel.TheVariants.{Conn}
 use Rattle.server_worker.specs.Sound.{IsTold}
-use Rattle.server_worker.specs.Stops.{is_force, is_forced}
+use Rattle.server_jobs.specs.Parcels.{is_force}
+use Rattle.server_worker.specs.Stops.{is_forced}
 use Rattle.server.specs.Joining.{IsJoined}
 
 -- An entry is a connection that was put on the ring to a worker, as it came back.

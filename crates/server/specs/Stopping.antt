@@ -39,6 +39,12 @@ EndsBy None true true end = end ≡ Stopped true
 EndsBy None true false end = is_stop end ≡ false
 EndsBy None false paused end = is_stop end ≡ false
 
+-- The source gave these commands.
+pub record Gave {Co : Type 0} (given : Co → Option (List Command)) (stops : Co → ℕ) (before after : Co) : Type 0 where
+  pub came : List Command
+  pub given_more : given after ≡ option_map (λ commands. commands ++ came) (given before)
+  pub stops_more : stops after ≡ stops_behind came (stops before)
+
 -- These commands came of the source, and the run ended by them.
 pub record IsTold {Co : Type 0} (given : Co → Option (List Command)) (stops : Co → ℕ) (ended : Co → Bool) (before after : Co) (end : End) : Type 0 where
   pub came : List Command

@@ -6,7 +6,9 @@ ghost use Rattle.server.specs.Settings.{IsInRange, default_settings};
 use crate::server::Server;
 use crate::settings::Settings;
 use futures::Future;
-use server_commands::{CommandQueue, Commands, GracefulShutdownSignal, HandleCommands, WithSignal};
+use server_commands::{
+    CommandQueue, Commands, GracefulShutdownSignal, HandleCommands, ServerHandle, WithSignal,
+};
 use std::alloc::{AllocError, Global};
 use std::sync::Wait;
 
@@ -111,6 +113,12 @@ impl ServerBuilder {
         ensures idles { IfOk result (λ commands. ⟦<HandleCommands<W> as Commands>⟧.idles commands ≡ 0) }
     {
         self.queue.commands(rt)
+    }
+
+    /// What tells the server to pause, to go on and to stop, as `Server::handle` of the server to be. Services that tell it so are made
+    /// before it is.
+    pub fn handle(&self) -> Result<ServerHandle, AllocError> {
+        self.queue.handle()
     }
 
     /// The commands of another source, and one graceful stop once the signal has come

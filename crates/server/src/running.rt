@@ -8,7 +8,7 @@ ghost use Rattle.server_run.specs.Serving.{Untouched};
 ghost use Rattle.server_run.specs.declared.serve_error.ServeError.TheVariants.{NoListener, Spawn};
 ghost use Rattle.server.specs.Settings.{IsInRange};
 ghost use Rattle.server.specs.Starting.{RoseBy};
-ghost use Rattle.server.specs.Stopping.{IsTold, ServesInTime};
+ghost use Rattle.server.specs.Stopping.{Gave, IsTold, ServesInTime};
 
 use crate::joining::{join_all, stop_all, wake_all};
 use crate::prepared::Prepared;
@@ -59,6 +59,7 @@ where
     ensures serves { IfOk result (λ report. ServesInTime Li.given Li.left Li.Link.identity (F.may_serve factory) (F.may_leave factory) Do.taken Do.count Do.served listeners.old.items listeners.new.items done.old done.new report.end
         (Cl.told clock.old + 1000 * settings.shutdown_timeout ≤ Cl.told clock.new)) }
     ensures commanded { IfOk result (λ report. IsTold Co.given Co.stops Co.ended commands.old commands.new report.end) }
+    ensures heard { OnErr result (Gave Co.given Co.stops commands.old commands.new) }
     ensures told { IfOk result (λ report. Tells Li.rest Li.ended Li.faults settings.retry_limit listeners.old.items listeners.new.items report) }
     ensures made { IfOk result (λ report. is_stop report.end ≡ false → (token : ℕ) → token < vec_len listeners.old → F.may_make factory token) }
     ensures started { OnOk result (RoseBy settings.workers (Sp.starts spawner.old) (Sp.starts spawner.new)) }

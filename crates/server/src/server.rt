@@ -7,7 +7,7 @@ ghost use Rattle.server_run.specs.Serving.{Untouched};
 ghost use Rattle.server_run.specs.declared.serve_error.ServeError.TheVariants.{NoListener, Spawn};
 ghost use Rattle.server.specs.Settings.{IsInRange, default_settings};
 ghost use Rattle.server.specs.Starting.{RoseBy};
-ghost use Rattle.server.specs.Stopping.{IsTold, ServesInTime};
+ghost use Rattle.server.specs.Stopping.{Gave, IsTold, ServesInTime};
 
 use crate::builder::ServerBuilder;
 use crate::running::serve_by;
@@ -60,6 +60,8 @@ impl<F> Server<F> {
     /// stands. A source of commands that ends while the server is paused stops it gracefully. Once all workers are joined the
     /// replies to its commands are ready, and so is every later one.
     ///
+    /// After an error too the replies to the commands that came until then are ready.
+    ///
     /// It waits for its threads, and they for the links. Of a listener that tells nothing of the links still to come (its
     /// `left` is `None`) `serves` holds little: how many entries there are, their numbers, and that each has some link as it
     /// came back, but not which link of the listener.
@@ -104,6 +106,8 @@ impl<F> Server<F> {
 
         // It ends as stopped exactly where a stop came, or where the commands ended while it was paused.
         ensures commanded { IfOk result (λ report. IsTold Co.given Co.stops Co.ended commands.old commands.new report.end) }
+        ensures heard { OnErr result (Gave Co.given Co.stops commands.old commands.new) }
+        ensures settled { Co.unsettled commands.new ≡ false }
         ensures told { IfOk result (λ report. Tells Li.rest Li.ended Li.faults (server_settings self).retry_limit listeners.old.items listeners.new.items report) }
         ensures made { IfOk result (λ report. is_stop report.end ≡ false → (token : ℕ) → token < vec_len listeners.old → F.may_make (factory_of self) token) }
         ensures started { OnOk result (RoseBy (server_settings self).workers (Sp.starts spawner.old) (Sp.starts spawner.new)) }

@@ -9,7 +9,7 @@ ghost use Rattle.server_run.specs.declared.serve_error.ServeError.TheVariants.{N
 ghost use Rattle.server.specs.Failing.{IsErrorOf};
 ghost use Rattle.server.specs.Rows.{lines_of};
 ghost use Rattle.server.specs.Starting.{IsStarted};
-ghost use Rattle.server.specs.Stopping.{IsTold, ServesInTime};
+ghost use Rattle.server.specs.Stopping.{Gave, IsTold, ServesInTime};
 
 use crate::accepting::accept_on;
 use crate::joining::{join_all, stop_all, wake_all};
@@ -76,6 +76,7 @@ where
     ensures serves { IfOk result (λ report. ServesInTime Li.given Li.left Li.Link.identity (F.may_serve factory.now) (F.may_leave factory.now) Do.taken Do.count Do.served listeners.old.items listeners.new.items done.old done.new report.end
         (Cl.told clock.old + 1000 * shutdown_timeout_of acceptor ≤ Cl.told clock.new)) }
     ensures commanded { IfOk result (λ report. IsTold Co.given Co.stops Co.ended commands.old commands.new report.end) }
+    ensures heard { OnErr result (Gave Co.given Co.stops commands.old commands.new) }
     ensures told { IfOk result (λ report. Tells Li.rest Li.ended Li.faults (retry_limit_of acceptor) listeners.old.items listeners.new.items report) }
     ensures made { IfOk result (λ report. is_stop report.end ≡ false → (token : ℕ) → token < vec_len listeners.old → F.may_make factory.now token) }
     ensures counts { Sp.counts spawner.new ≡ Sp.counts spawner.old }

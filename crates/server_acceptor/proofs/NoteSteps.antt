@@ -13,7 +13,8 @@ use Rattle.std.proofs.lemmas.List.Elements.{All-nil, All-append, Contains-append
 use Rattle.rtrb.specs.Ring.{known_items, received, SameConsumer}
 use Rattle.rtrb.specs.declared.consumer.Consumer.{Consumer}
 use Rattle.service_core.specs.Link.{Identity}
-use Rattle.server_run.specs.Done.{Adds, is_served}
+use Rattle.server_run.specs.Done.{Adds}
+use Rattle.server_run.specs.Outcome.{is_served}
 use Rattle.server_run.specs.Outcome.{is_stopped}
 use Rattle.server_run.specs.declared.entry.Entry.{Entry}
 use Rattle.std.specs.Prelude.{sum}

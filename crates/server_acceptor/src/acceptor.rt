@@ -3,7 +3,7 @@ ghost use Rattle.std.specs.List.{list_all};
 ghost use Rattle.std.specs.Option.{option_map};
 ghost use Rattle.std.specs.FinSet as set;
 ghost use Rattle.server_core.specs.Core.{IsKept, in_order};
-ghost use Rattle.server_acceptor.specs.Sending.{AreForced};
+ghost use Rattle.server_acceptor.specs.Sending.{AreForced, AreStopped};
 ghost use Rattle.std.proofs.Props.{props};
 ghost use Rattle.server_acceptor.specs.declared.stop.Stop.{Stop as IsStop};
 
@@ -68,7 +68,8 @@ pub struct Acceptor<L> {
     ghost early: { list_all (λ ready. ready) ready.items ≡ false → serial ≡ 0 },
     // The core knows of the stop that is kept.
     ghost agrees: { core.stopping ≡ option_map (λ (s : IsStop). s.graceful) stop },
-    // Each worker that is marked so was sent a stop that is not graceful.
+    // Each worker that is marked so was sent a stop, and one that is not graceful.
+    ghost stopped_sent: { AreStopped parcels.items stopped.items },
     ghost forced_sent: { AreForced parcels.items forced.items },
     // A listener that failed as often as it may has ended.
     ghost patient: { (t : ℕ) → slice_index_or core.ended t true ≡ false → slice_index core.failures t < retry_limit },

@@ -1,7 +1,7 @@
 ghost use Rattle.std.specs.Prelude.{◌≡◌, ◌+◌, ◌^◌, ◌<◌, ◌≤◌, ◌∷◌, [], None, Ok};
-ghost use Rattle.server_run.specs.Done.{Adds, Keeps, is_served};
+ghost use Rattle.server_run.specs.Done.{Adds, Keeps};
 
-use server_run::{Done, Entry, Outcome};
+use server_run::{Done, Entry};
 use std::alloc::AllocError;
 
 /// Closes the link of each connection that it is given, and counts them. It takes no memory.
@@ -41,13 +41,6 @@ impl CloseAll {
     }
 }
 
-// Whether a connection was served.
-fn is_served(outcome: Outcome) -> bool
-    ensures { result ≡ is_served outcome }
-{
-    matches!(outcome, Outcome::Served)
-}
-
 impl<L: Drop> Done<L> for CloseAll {
     ghost taken = { λ _. None };
 
@@ -74,7 +67,7 @@ impl<L: Drop> Done<L> for CloseAll {
     {
         self.spare -= 1;
         self.entries = self.entries.saturating_add(1);
-        let served = u64::from(is_served(entry.outcome));
+        let served = u64::from(entry.outcome.is_served());
         self.served = self.served.saturating_add(served);
     }
 

@@ -1,4 +1,5 @@
 pub mod Jobs
+pub mod Parcels
 pub mod Cards
 pub mod Joins
 pub mod Returning

@@ -1,11 +1,10 @@
 -- What a holder of finished connections is given.
-use Rattle.std.specs.Prelude.{◌≡◌, ◌<◌, ℕ, ◌+◌, ◌-◌, ◌^◌, min, Bool, true, false, List, ◌++◌, length, Option}
+use Rattle.std.specs.Prelude.{◌≡◌, ◌<◌, ℕ, ◌+◌, ◌-◌, ◌^◌, min, List, ◌++◌, length, Option}
 use Rattle.std.proofs.Common.{arith}
 use Rattle.std.specs.List.{count_by}
 use Rattle.std.specs.Option.{option_map}
 use Rattle.server_run.specs.declared.entry.Entry.{Entry}
-use Rattle.server_run.specs.declared.outcome.Outcome.{Outcome}
-use Rattle.server_run.specs.declared.outcome.Outcome.TheVariants.{Served, ReadFault, WriteFault, Upgraded, Stopped, Memory}
+use Rattle.server_run.specs.Outcome.{is_served}
 
 -- a count, which stands still at its last value
 abbrev pub counted : ℕ → ℕ
@@ -13,14 +12,6 @@ counted n = min n (2 ^ 64 - 1)
 
 pub counted_small : (n : ℕ) → counted n < 2 ^ 64
 counted_small n = omega arith
-
-abbrev pub is_served : Outcome → Bool
-is_served Served = true
-is_served ReadFault = false
-is_served WriteFault = false
-is_served Upgraded = false
-is_served (Stopped forced) = false
-is_served Memory = false
 
 abbrev pub served_count : {L : Type 0} → List (Entry L) → ℕ
 served_count entries = count_by (λ e. is_served e.outcome) entries

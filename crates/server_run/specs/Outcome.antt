@@ -13,6 +13,15 @@ outcome_of how.WriteFault = outcome.WriteFault
 outcome_of how.Upgraded = outcome.Upgraded
 outcome_of how.Memory = outcome.Memory
 
+-- its service served it to its end
+abbrev pub is_served : Outcome → Bool
+is_served outcome.Served = true
+is_served outcome.ReadFault = false
+is_served outcome.WriteFault = false
+is_served outcome.Upgraded = false
+is_served (outcome.Stopped forced) = false
+is_served outcome.Memory = false
+
 -- the server was stopped first
 abbrev pub is_stopped : Outcome → Bool
 is_stopped outcome.Served = false

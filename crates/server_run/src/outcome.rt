@@ -1,5 +1,5 @@
 ghost use Rattle.std.specs.Prelude.{◌≡◌};
-ghost use Rattle.server_run.specs.Outcome.{is_stopped, outcome_of};
+ghost use Rattle.server_run.specs.Outcome.{is_served, is_stopped, outcome_of};
 
 use service_core::How;
 
@@ -35,6 +35,13 @@ impl Outcome {
             How::Upgraded => Outcome::Upgraded,
             How::Memory => Outcome::Memory,
         }
+    }
+
+    /// Whether its service served it to its end.
+    pub fn is_served(&self) -> bool
+        ensures { result ≡ is_served self.now }
+    {
+        matches!(self, Outcome::Served)
     }
 
     /// Whether the server was stopped before it was served to its end.

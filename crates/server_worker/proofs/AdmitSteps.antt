@@ -1,5 +1,5 @@
 -- One connection more is admitted.
-use Rattle.std.proofs.Common.{◌≡◌, ◌<◌, ℕ, List, [], ◌∷◌, ◌++◌, length, sum_by, All, Result, Some, IfSome, slice_get, get_or, refl, ◌∙◌, ap, arith, subst}
+use Rattle.std.proofs.Common.{◌≡◌, ◌<◌, ℕ, List, [], ◌∷◌, ◌++◌, length, sum_by, All, Result, Some, IfSome, slice_get, get_or, true, false, true≢false, refl, sym, ◌∙◌, ap, arith, subst}
 use Rattle.std.proofs.lemmas.Option.{slice_get_read}
 use Rattle.std.proofs.lemmas.List.Sums.{sum_by_push, sum_by-append}
 use Rattle.std.proofs.lemmas.List.Elements.{All-head, All-tail, All-push}
@@ -11,23 +11,51 @@ use Rattle.service_core.specs.declared.ended.Ended.{Ended}
 use Rattle.server_jobs.specs.Cards.{Card, card, of_waiting}
 use Rattle.server_worker.specs.Polled.{Admits, as_it_is}
 use Rattle.server_worker.specs.Sound.{IsSound, Lives, Serves, WaitsFor}
-use Rattle.server_worker.specs.Standing.{AllMade, IsMade}
+use Rattle.server_worker.specs.Checking.{IsStanding}
+use Rattle.server_worker.specs.Standing.{fits, fits_at}
+use Rattle.worker_core.proofs.WorkerCoreRuns.{available_each}
+use Rattle.worker_core.specs.WorkerCore.{Worker, state_of, status_of}
+use Rattle.worker_core.specs.declared.service_status.ServiceStatus.TheVariants.{Available}
+use Rattle.worker_core.specs.declared.worker_state.WorkerState.TheVariants as state
 use Rattle.server_worker.specs.declared.connections.Connections.{Connections}
 use Rattle.server_worker.specs.declared.live.Live.{Live}
 use Rattle.server_worker.specs.declared.slot.Slot.{Slot}
+use Rattle.server_worker.specs.declared.slot.Slot.TheVariants.{Making, Made, Failed, Remaking, Gone}
 use Rattle.server_jobs.specs.declared.waiting.Waiting.{Waiting}
 
 -- of a slot that is read P holds
-pub of_slot : {Fut S : Type 0} (P : ℕ → Slot Fut S → Type 0) (slots : List (Slot Fut S)) (token : ℕ) (slot : Slot Fut S) → token < length slots → slot ≡ get_or slots token slot
+pub of_slot : {Fut S E : Type 0} (P : ℕ → Slot Fut S E → Type 0) (slots : List (Slot Fut S E)) (token : ℕ) (slot : Slot Fut S E) → token < length slots → slot ≡ get_or slots token slot
     → ((t : ℕ) → IfSome (slice_get slots t) (P t)) → P token slot
 of_slot P slots token slot inside is all =
     let here : slice_get slots token ≡ Some slot = slice_get_read slots (length slots) token slot refl inside is in
     subst (λ o. IfSome o (P token)) here (all token)
 
-pub is_made : {Fut S : Type 0} (slots : List (Slot Fut S)) (token : ℕ) (slot : Slot Fut S) → token < length slots → slot ≡ get_or slots token slot → AllMade slots → IsMade (Some slot)
-is_made slots token slot inside is all =
+pub of_slot_at : {Fut S E : Type 0} (P : Slot Fut S E → Type 0) (slots : List (Slot Fut S E)) (token : ℕ) (slot : Slot Fut S E) → token < length slots → slot ≡ get_or slots token slot → IfSome (slice_get slots token) P → P slot
+of_slot_at P slots token slot inside is here =
+    let at : slice_get slots token ≡ Some slot = slice_get_read slots (length slots) token slot refl inside is in
+    subst (λ o. IfSome o P) at here
+
+-- what is none that stands does not stand
+pub not_standing : {Fut S E : Type 0} (slot : Slot Fut S E) → ((service : S) → slot ≡ Made service → ⊥) → IsStanding (Some slot) → ⊥
+not_standing (Making future) other stands = stands
+not_standing (Made service) other stands = other service refl
+not_standing (Failed error) other stands = stands
+not_standing (Remaking future error) other stands = stands
+not_standing Gone other stands = stands
+
+-- where all are available, a slot that is read stands
+pub stands_at : {Fut S E : Type 0} (slots : List (Slot Fut S E)) (w : Worker) (token : ℕ) (slot : Slot Fut S E) → token < length slots → length slots ≡ length w.services → slot ≡ get_or slots token slot
+    → ((t : ℕ) → fits_at (status_of w t) (slice_get slots t) ≡ true) → state_of w ≡ state.Available → IsStanding (Some slot)
+stands_at {Fut = Fut} {S = S} {E = E} slots w token slot inside many is fit available =
     let here : slice_get slots token ≡ Some slot = slice_get_read slots (length slots) token slot refl inside is in
-    subst IsMade here (all token inside)
+    by_slot slot (subst (λ s. fits s slot ≡ true) (available_each w token available (omega (arith, inside, many))) (subst (λ o. fits_at (status_of w token) o ≡ true) here (fit token)))
+  where
+    by_slot : (slot : Slot Fut S E) → fits Available slot ≡ true → IsStanding (Some slot)
+    by_slot (Making future) fit = absurd (true≢false (sym fit))
+    by_slot (Made service) fit = tt
+    by_slot (Failed error) fit = absurd (true≢false (sym fit))
+    by_slot (Remaking future error) fit = absurd (true≢false (sym fit))
+    by_slot Gone fit = absurd (true≢false (sym fit))
 
 same_weight : {L Fut : Type 0} (identity : L → Identity) (h : Card → ℕ → ℕ) (w : Waiting L) (c : Live L Fut)
     → c.serial ≡ w.serial → c.token ≡ w.token → c.place ≡ w.place → c.given.value ≡ w.link → wait_count c.future ≡ 0 → as_it_is identity h c ≡ h (card w.serial w.token w.place (identity w.link)) 0

@@ -22,7 +22,7 @@ use Rattle.server_worker.specs.Leaving.{Gathers, HasStayed, Leaves, Runs, Unqueu
 use Rattle.server_worker.specs.Polled.{OwesMore}
 use Rattle.server_worker.specs.Posted.{Posts}
 use Rattle.server_worker.specs.Sound.{IsSound, IsTold, Lives, Waits}
-use Rattle.server_worker.specs.Stops.{is_force, is_stop}
+use Rattle.server_jobs.specs.Parcels.{is_force, is_stop}
 use Rattle.server_worker.specs.Telling.{TellsFault, newly}
 use Rattle.server_worker.specs.declared.connections.Connections.{Connections}
 use Rattle.server_worker.specs.declared.live.Live.{Live}

@@ -9,6 +9,7 @@ pub mod Places
 pub mod PollSteps
 pub mod PostSteps
 pub mod ServeSteps
+pub mod Statuses
 pub mod StopSteps
 pub mod StopTurns
 pub mod StopWords

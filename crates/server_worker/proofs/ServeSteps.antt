@@ -17,6 +17,7 @@ use Rattle.server_worker.specs.Standing.{AllMade}
 use Rattle.server_worker.specs.Stopping.{of_stop, told_as}
 use Rattle.server_worker.specs.declared.connections.Connections.{Connections}
 use Rattle.server_worker.specs.declared.slot.Slot.{Slot}
+use Rattle.server_jobs.specs.declared.note.Note.{Note}
 use Rattle.server_jobs.specs.declared.note.Note.TheVariants.{Ready}
 use Rattle.server_worker.proofs.Accounting.{accounts_trans}
 use Rattle.server_worker.proofs.StopWords.{ended_weighs}
@@ -104,23 +105,22 @@ newly_none true b = refl
 newly_none false true = refl
 newly_none false false = refl
 
-module _ {L Fut MFut S : Type 0} (slots : List (Slot MFut S)) where
+module _ {L Fut MFut S E : Type 0} (slots : List (Slot MFut S E)) where
   -- that all services stand was told by what is owed, or was told before, or is not told
-  pub turn_ready : {identity : L → Identity} (b c d e : Connections L Fut) → Admits identity b c → OwesMore identity Ready c d → TellsNoReady d e
-      → (c.told ≡ false → d.told ≡ true → AllMade slots) → TellsReady slots b e
-  turn_ready b c d e admits owes none stand = record {
+  pub turn_ready : {identity : L → Identity} (b c d e : Connections L Fut) → OwesMore identity Ready b c → Admits identity c d → TellsNoReady d e
+      → (b.told ≡ false → c.told ≡ true → AllMade slots) → TellsReady slots b e
+  turn_ready b c d e owes admits none stand = record {
     once = λ f nothing.
-        let n = ap (λ p. sum_by f (sent p)) (owes.notes ∙ admits.notes) in
+        let n = ap (λ p. sum_by f (sent p)) (admits.notes ∙ owes.notes) in
         let o = ap (λ q. sum_by f q.items) admits.owed in
-        let m = ap (λ x. newly (f Ready) x d.told) same in
-        let k = ap (λ x. newly (f Ready) b.told x) none.told in
-        omega (arith, none.count f nothing, owes.signals f, n, o, m, k);
-    stays = λ was. none.told ∙ owes.told_ready (same ∙ was);
-    stand = λ was is. stand (same ∙ was) (sym none.told ∙ is);
+        let m = ap (λ x. newly (f Ready) b.told x) same in
+        omega (arith, none.count f nothing, owes.signals f, n, o, m);
+    stays = λ was. same ∙ owes.told_ready was;
+    stand = λ was is. stand was (sym same ∙ is);
   }
     where
-      same : c.told ≡ b.told
-      same = admits.told_ready
+      same : e.told ≡ c.told
+      same = none.told ∙ admits.told_ready
 
   -- nothing of it was told
   pub turn_no_ready : (b e : Connections L Fut) → TellsNoReady b e → TellsReady slots b e
@@ -132,23 +132,22 @@ module _ {L Fut MFut S : Type 0} (slots : List (Slot MFut S)) where
     stand = λ was is. absurd (true≢false (sym is ∙ none.told ∙ was));
   }
 
--- those that may were admitted, a note may be owed, and the live ones were polled
-module _ {L Fut : Type 0} (identity : L → Identity) (b c d e : Connections L Fut)
-    (admits : Admits identity b c) (owes : OwesMore identity Ready c d) (served : Accounts identity d e) (polls : PollsLive identity d e) where
+-- a note may be owed, those that may were admitted, and then what had ended was handed back
+module _ {L Fut : Type 0} (identity : L → Identity) (b c d e : Connections L Fut) (owes : OwesMore identity Ready b c) (admits : Admits identity c d) where
   same_notes : (h : Card → ℕ) → handed identity h d ≡ handed identity h b
   same_notes h =
-      let n = ap (λ p. sum_by (of_note identity h) (sent p)) (owes.notes ∙ admits.notes) in
+      let n = ap (λ p. sum_by (of_note identity h) (sent p)) (admits.notes ∙ owes.notes) in
       let o = ap (λ q. sum_by (of_note identity h) q.items) admits.owed in
       omega (arith, owes.once h, n, o)
 
   same_queue : (h : Card → ℕ) → queued identity h d + sum_by h admits.admitted ≡ queued identity h b
   same_queue h =
       let q = ap (λ q. sum_by (of_waiting identity h) q.items) owes.queue in
-      let s = ap (λ q. sum_by (of_waiting identity h) q.items) (owes.strays ∙ admits.strays) in
+      let s = ap (λ q. sum_by (of_waiting identity h) q.items) (admits.strays ∙ owes.strays) in
       omega (arith, admits.queue h, q, s)
 
   same_parcels : (h : Card → ℕ) → sum_by (of_parcel identity h) (received d.parcels) ≡ sum_by (of_parcel identity h) (received b.parcels)
-  same_parcels h = ap (λ p. sum_by (of_parcel identity h) (received p)) (owes.parcels ∙ admits.parcels)
+  same_parcels h = ap (λ p. sum_by (of_parcel identity h) (received p)) (admits.parcels ∙ owes.parcels)
 
   live_by : (h : Card → ℕ → ℕ) → sum_by (as_it_is identity h) d.live.items ≡ sum_by (as_it_is identity h) b.live.items + sum_by (λ (k : Card). h k 0) admits.admitted
   live_by h =
@@ -157,12 +156,12 @@ module _ {L Fut : Type 0} (identity : L → Identity) (b c d e : Connections L F
 
   pub turn_stops : (forced : Bool) (h : Card → ℕ) → told_as identity forced h e ≡ told_as identity forced h d → told_as identity forced h e ≡ told_as identity forced h b
   turn_stops forced h same =
-      let n = ap (λ p. sum_by (of_stop identity forced h) (sent p)) (owes.notes ∙ admits.notes) in
+      let n = ap (λ p. sum_by (of_stop identity forced h) (sent p)) (admits.notes ∙ owes.notes) in
       let o = ap (λ q. sum_by (of_stop identity forced h) q.items) admits.owed in
-      omega (arith, same, owes.signals (of_stop identity forced h), newly_none c.told d.told, n, o)
+      omega (arith, same, owes.signals (of_stop identity forced h), newly_none b.told c.told, n, o)
 
-  pub turn_polls : PollsLive identity b e
-  turn_polls = record {
+  pub turn_polls : PollsLive identity d e → PollsLive identity b e
+  turn_polls polls = record {
     admitted = admits.admitted ++ polls.admitted;
     ended = polls.ended;
     once = λ h.
@@ -172,16 +171,60 @@ module _ {L Fut : Type 0} (identity : L → Identity) (b c d e : Connections L F
     told = λ h. omega (arith, same_notes h, polls.told h);
   }
 
-  pub turn_accounts : Accounts identity b e
-  turn_accounts = accounts_trans between served
+  pub turn_accounts : Accounts identity d e → Accounts identity b e
+  turn_accounts served = accounts_trans between served
     where
       between : Accounts identity b d
       between = record {
-        parcels = rw (owes.parcels, admits.parcels) ((refl, refl, refl, refl), refl);
-        notes = rw (owes.notes, admits.notes) ((refl, refl, refl, refl), refl);
+        parcels = rw (admits.parcels, owes.parcels) ((refl, refl, refl, refl), refl);
+        notes = rw (admits.notes, owes.notes) ((refl, refl, refl, refl), refl);
         once = λ h.
-            let n = ap (λ p. sum_by (of_note identity h) (sent p)) (owes.notes ∙ admits.notes) in
+            let n = ap (λ p. sum_by (of_note identity h) (sent p)) (admits.notes ∙ owes.notes) in
             let o = ap (λ q. sum_by (of_note identity h) q.items) admits.owed in
             let l : sum_by (of_live identity h) d.live.items ≡ sum_by (of_live identity h) b.live.items + sum_by h admits.admitted = live_by (λ k n. h k) in
             omega (arith, same_queue h, same_parcels h, owes.once h, n, o, l);
       }
+
+-- ---- what was kept went on the ring, and nothing was polled
+module _ {L E Fut : Type 0} (g : FutureOf Fut (Result (Ended L) E)) (may_stand : Fut → L → Type 0) (may_serve : ℕ → L → Ended L → Type 0) (may_leave : ℕ → L → L → Type 0)
+    (may_make : ℕ → Type 0) (listeners : ℕ) (identity : L → Identity) (a b : Connections L Fut) (sound : IsSound g may_stand may_serve may_leave may_make listeners a) (posts : Posts a b) where
+  moved_on : (f : Note L → ℕ) → sum_by f (sent a.notes) + sum_by f a.owed.items ≡ sum_by f (sent b.notes) + sum_by f b.owed.items
+  moved_on f = omega (arith, ap (sum_by f) posts.appended, ap (sum_by f) posts.kept, sum_by-append f (sent a.notes) posts.more, sum_by-append f posts.more b.owed.items)
+
+  pub posted_accounts : Accounts identity a b
+  posted_accounts = record {
+    parcels = rw posts.parcels ((refl, refl, refl, refl), refl);
+    notes = posts.notes;
+    once = λ h.
+        let q = ap (λ q. sum_by (of_waiting identity h) q.items) posts.queue in
+        let s = ap (λ q. sum_by (of_waiting identity h) q.items) posts.strays in
+        let p = ap (λ p. sum_by (of_parcel identity h) (received p)) posts.parcels in
+        let l = ap (λ l. sum_by (of_live identity h) l.items) posts.live in
+        omega (arith, moved_on (of_note identity h), q, s, p, l);
+  }
+
+  pub posted_no_ready : TellsNoReady a b
+  posted_no_ready = record { count = λ f nothing. sym (moved_on f); told = posts.told_ready }
+
+  pub posted_stops : (forced : Bool) (h : Card → ℕ) → told_as identity forced h b ≡ told_as identity forced h a
+  posted_stops forced h = sym (moved_on (of_stop identity forced h))
+
+  posted_told : All (IsTold may_serve may_leave may_make listeners (received b.parcels)) (posts.more ++ b.owed.items)
+  posted_told = rw posts.parcels (subst (All (IsTold may_serve may_leave may_make listeners (received a.parcels))) posts.kept sound.owed)
+
+  pub posted_tells : Tells may_serve may_leave may_make listeners a b
+  posted_tells = record {
+    more = posts.more;
+    appended = posts.appended;
+    told = all_left (IsTold may_serve may_leave may_make listeners (received b.parcels)) posts.more b.owed.items posted_told;
+  }
+
+  pub posted_sound : IsSound g may_stand may_serve may_leave may_make listeners b
+  posted_sound = record {
+    queue = rw (posts.parcels, posts.queue) sound.queue;
+    strays = rw (posts.parcels, posts.strays) sound.strays;
+    live = rw (posts.parcels, posts.live) sound.live;
+    stop = rw (posts.parcels, posts.stopped) sound.stop;
+    force = rw (posts.parcels, posts.forced) sound.force;
+    owed = all_right (IsTold may_serve may_leave may_make listeners (received b.parcels)) posts.more b.owed.items posted_told;
+  }

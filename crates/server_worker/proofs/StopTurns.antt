@@ -169,7 +169,7 @@ module _ {L Fut : Type 0} (identity : L → Identity) (listeners : ℕ) (a b e :
       → Tells may_serve may_leave may_make many b e → Tells may_serve may_leave may_make many a e
   taken_tells may_serve may_leave may_make many tells = record { more = tells.more; appended = tells.appended ∙ ap (λ n. sent n ++ tells.more) takes.notes; told = tells.told }
 
-  pub taken_ready : {MFut S : Type 0} (slots : List (Slot MFut S)) → TellsReady slots b e → TellsReady slots a e
+  pub taken_ready : {MFut S E : Type 0} (slots : List (Slot MFut S E)) → TellsReady slots b e → TellsReady slots a e
   taken_ready slots ready = record {
     once = λ f nothing.
         let k = ap (λ x. newly (f Ready) x e.told) takes.told_ready in

@@ -10,7 +10,7 @@ use Rattle.rtrb.specs.Ring.{received}
 use Rattle.service_core.specs.declared.ended.Ended.{Ended}
 use Rattle.server_worker.specs.Sound.{IsSound, IsTold, Lives, Strays, Waits, WaitsFor}
 use Rattle.server_worker.specs.Taken.{Grows, Queues, Receives, Takes}
-use Rattle.server_worker.specs.Stops.{is_force, is_stop}
+use Rattle.server_jobs.specs.Parcels.{is_force, is_stop}
 use Rattle.server_jobs.specs.declared.parcel.Parcel.TheVariants.{Conn, Stop}
 use Rattle.server_worker.specs.declared.connections.Connections.{Connections}
 use Rattle.server_worker.specs.declared.live.Live.{Live}

@@ -1,4 +1,5 @@
 pub mod Asking
+pub mod Checking
 pub mod Ending
 pub mod Holding
 pub mod Leaving

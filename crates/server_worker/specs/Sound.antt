@@ -10,7 +10,8 @@ use Rattle.server_run.specs.Creating.{OnlyEnds}
 use Rattle.server_run.specs.Delivery.{ComesBack}
 use Rattle.server_run.specs.Outcome.{is_stopped}
 use Rattle.server_run.specs.declared.entry.Entry.{Entry}
-use Rattle.server_worker.specs.Stops.{is_force, is_forced, is_stop}
+use Rattle.server_jobs.specs.Parcels.{is_force, is_stop}
+use Rattle.server_worker.specs.Stops.{is_forced}
 use Rattle.server_worker.specs.declared.connections.Connections.{Connections}
 use Rattle.server_worker.specs.declared.live.Live.{Live}
 use Rattle.server_jobs.specs.declared.note.Note.{Note}

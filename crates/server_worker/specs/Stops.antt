@@ -1,18 +1,7 @@
--- What tells of a stop: parcels, and outcomes.
-use Rattle.std.specs.Prelude.{Bool, true, false, not, ℕ}
+-- Outcomes that tell of a stop.
+use Rattle.std.specs.Prelude.{Bool, true, false, ℕ}
 use Rattle.server_run.specs.declared.outcome.Outcome.{Outcome}
 use Rattle.server_run.specs.declared.outcome.Outcome.TheVariants as outcome
-use Rattle.server_jobs.specs.declared.parcel.Parcel.{Parcel}
-use Rattle.server_jobs.specs.declared.parcel.Parcel.TheVariants.{Conn, Stop}
-
-abbrev pub is_stop : {L : Type 0} → Parcel L → Bool
-is_stop (Conn serial token place link) = false
-is_stop (Stop graceful) = true
-
--- a stop that is not graceful
-abbrev pub is_force : {L : Type 0} → Parcel L → Bool
-is_force (Conn serial token place link) = false
-is_force (Stop graceful) = not graceful
 
 -- the server was stopped while a service served the connection
 abbrev pub is_forced : Outcome → Bool

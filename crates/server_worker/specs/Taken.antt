@@ -3,7 +3,7 @@ use Rattle.std.specs.Prelude.{◌≡◌, ◌++◌, ◌||◌, ℕ, List, All}
 use Rattle.std.specs.List.{list_any}
 use Rattle.rtrb.specs.Ring.{received}
 use Rattle.server_worker.specs.Sound.{Strays, WaitsFor}
-use Rattle.server_worker.specs.Stops.{is_force, is_stop}
+use Rattle.server_jobs.specs.Parcels.{is_force, is_stop}
 use Rattle.server_worker.specs.declared.connections.Connections.{Connections}
 use Rattle.server_jobs.specs.declared.parcel.Parcel.{Parcel}
 use Rattle.server_jobs.specs.declared.waiting.Waiting.{Waiting}

@@ -37,9 +37,9 @@ pub record TellsFault {L Fut : Type 0} (a b : Connections L Fut) : Type 0 where
   pub once : (f : Note L → ℕ) → noted f b ≡ noted f a + newly (f Faulted) a.told b.told
   pub told : b.told ≡ true
 
--- That all services stand was told in between where it had not been told before, and once, and only where they do. No other note
+-- That all services stand was told in between where it had not been told before, and once, and only where each was made. No other note
 -- came but those that hand connections back.
-pub record TellsReady {L Fut MFut S : Type 0} (slots : List (Slot MFut S)) (a b : Connections L Fut) : Type 0 where
+pub record TellsReady {L Fut MFut S E : Type 0} (slots : List (Slot MFut S E)) (a b : Connections L Fut) : Type 0 where
   pub once : (f : Note L → ℕ) → WeighsSignals f → noted f b ≡ noted f a + newly (f Ready) a.told b.told
   pub stays : a.told ≡ true → b.told ≡ true
   pub stand : a.told ≡ false → b.told ≡ true → AllMade slots

@@ -20,10 +20,10 @@ module _ {L F Fac E S I MFut Fut : Type 0} where
   factory_of w = w.factory
 
   -- its services, by token
-  abbrev pub services_of : Worker L F Fac E S I MFut Fut → Services Fac MFut S
+  abbrev pub services_of : Worker L F Fac E S I MFut Fut → Services Fac MFut S E
   services_of w = w.services
 
-  abbrev pub slots_of : Worker L F Fac E S I MFut Fut → List (Slot MFut S)
+  abbrev pub slots_of : Worker L F Fac E S I MFut Fut → List (Slot MFut S E)
   slots_of w = w.services.slots.items
 
   -- for how many listeners it has services

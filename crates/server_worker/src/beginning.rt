@@ -1,7 +1,9 @@
 //! How a worker begins.
-ghost use Rattle.std.specs.Prelude.{◌≡◌, ◌≤◌, ◌<◌, false, length, IfOk, IfErr};
+ghost use Rattle.std.specs.Prelude.{◌≡◌, ◌≤◌, ◌<◌, ℕ, true, false, length, slice_get, IfOk, IfErr};
 ghost use Rattle.server_worker.specs.Room.{IsFresh};
-ghost use Rattle.server_worker.specs.Standing.{AreSlots, IsSlot};
+ghost use Rattle.server_run.specs.Creating.{Creates};
+ghost use Rattle.server_worker.specs.Standing.{AreFactories, AreSlots, IsSlot, fits, fits_at};
+ghost use Rattle.worker_core.specs.declared.service_status.ServiceStatus.TheVariants as status;
 ghost use Rattle.server_worker.specs.Turn.{Works};
 ghost use Rattle.server_worker.specs.Workers.{core_of, factory_of, hand_of, held_by, listeners_of, made_of, notes_of, parcels_of, services_of, total_of};
 ghost use Rattle.worker_core.specs.WorkerCore.{new_worker};
@@ -26,22 +28,29 @@ fn begin_one<L, F>(
 ) -> Result<
     (
         F::Factory,
-        Slot<<F::Factory as ServiceFactory<L>>::Future, <F::Factory as ServiceFactory<L>>::Service>,
+        Slot<
+            <F::Factory as ServiceFactory<L>>::Future,
+            <F::Factory as ServiceFactory<L>>::Service,
+            <F::Factory as ServiceFactory<L>>::Error,
+        >,
     ),
     AllocError,
 >
 where
     L: Link,
     F: ServerServiceFactory<L>,
-    ensures { IfOk result (λ begun. IsSlot F.Factory.Future.Future F.Factory.Service.Service F.Factory.Service.Future.may_stand
+    ensures slot { IfOk result (λ begun. IsSlot F.Factory.Future.Future F.Factory.Service.Service F.Factory.Service.Future.may_stand
         (F.may_serve factory.now token) (F.may_leave factory.now token) (F.may_ready factory.now token) (F.may_init factory.now token) (F.may_make factory.now token) begun.1) }
+    ensures making { IfOk result (λ begun. fits status.Unavailable begun.1 ≡ true) }
+    ensures creates { IfOk result (λ begun. Creates F.Factory.ServiceFactory F.Factory.Service.Future.may_stand
+        (F.may_serve factory.now token) (F.may_leave factory.now token) (F.may_ready factory.now token) (F.may_init factory.now token) (F.may_make factory.now token) begun.0) }
 {
     let services = factory.create(alloc, token)?;
     let making = services.new_service(());
     Ok((services, Slot::Making(Watched::new(making))))
 }
 
-#[tactic(auto, using(crate::proofs::BeginSteps::each_push))]
+#[tactic(auto, using(crate::proofs::BeginSteps::each_push, crate::proofs::BeginSteps::fits_push))]
 // The factories of all tokens, and the making of their first services.
 fn begin_all<L, F>(
     alloc: Global,
@@ -54,6 +63,7 @@ fn begin_all<L, F>(
             Slot<
                 <F::Factory as ServiceFactory<L>>::Future,
                 <F::Factory as ServiceFactory<L>>::Service,
+                <F::Factory as ServiceFactory<L>>::Error,
             >,
         >,
     ),
@@ -64,7 +74,10 @@ where
     F: ServerServiceFactory<L>,
     ensures slots { IfOk result (λ begun. AreSlots F.Factory.Future.Future F.Factory.Service.Service F.Factory.Service.Future.may_stand
         (F.may_serve factory.now) (F.may_leave factory.now) (F.may_ready factory.now) (F.may_init factory.now) (F.may_make factory.now) begun.1.items) }
-    ensures as_many { IfOk result (λ begun. length begun.1.items ≡ listeners) }
+    ensures making { IfOk result (λ begun. (token : ℕ) → fits_at status.Unavailable (slice_get begun.1.items token) ≡ true) }
+    ensures factories { IfOk result (λ begun. AreFactories F.Factory.ServiceFactory F.Factory.Service.Future.may_stand
+        (F.may_serve factory.now) (F.may_leave factory.now) (F.may_ready factory.now) (F.may_init factory.now) (F.may_make factory.now) begun.0.items) }
+    ensures as_many { IfOk result (λ begun. (length begun.1.items ≡ listeners) × (length begun.0.items ≡ listeners)) }
 {
     let mut factories = Vec::with_capacity(alloc, listeners)?;
     let mut slots = Vec::with_capacity(alloc, listeners)?;
@@ -77,7 +90,7 @@ where
 }
 
 impl<L: Link, F: ServerServiceFactory<L>> Worker<L, F> {
-    #[tactic(auto, using(crate::proofs::BeginSteps::new_asked))]
+    #[tactic(auto, using(crate::proofs::BeginSteps::new_fits))]
     /// A worker that begins to make the services of so many listeners. Where there is no memory, and only there, its parts come
     /// back as they were.
     pub fn new(
@@ -89,7 +102,7 @@ impl<L: Link, F: ServerServiceFactory<L>> Worker<L, F> {
     ) -> Result<Worker<L, F>, WorkerParts<L, F>>
         requires some { 0 < listeners }
         requires fits { listeners ≤ 64 }
-        ensures works { IfOk result (λ w. Works F.Factory.Future.Future F.Factory.Service.Service F.Factory.Service.Future.Future F.Factory.Service.Future.may_stand
+        ensures works { IfOk result (λ w. Works F.Factory.ServiceFactory F.Factory.Future.Future F.Factory.Service.Service F.Factory.Service.Future.Future F.Factory.Service.Future.may_stand
             (F.may_serve (factory_of w)) (F.may_leave (factory_of w)) (F.may_ready (factory_of w)) (F.may_init (factory_of w)) (F.may_make (factory_of w)) (services_of w) (hand_of w)) }
         ensures fresh { IfOk result (λ w. IsFresh (hand_of w)) }
         ensures ends { IfOk result (λ w. (parcels_of w ≡ parcels) × (notes_of w ≡ notes)) }

@@ -3,7 +3,9 @@
 
 mod admitting;
 mod beginning;
+mod checked;
 mod connections;
+mod fault;
 mod finished;
 mod leaving;
 mod live;

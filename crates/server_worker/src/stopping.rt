@@ -144,6 +144,7 @@ impl<L: Link, F: ServerServiceFactory<L>> Worker<L, F> {
         ensures slots { self.new.services.slots ≡ self.old.services.slots }
         ensures core { self.new.services.core ≡ self.old.services.core }
         ensures made { self.new.services.made ≡ self.old.services.made }
+        ensures factories { self.new.services.factories ≡ self.old.services.factories }
         ensures accounts { Accounts L.identity self.old.hand self.new.hand }
         ensures tells { Tells (F.may_serve self.new.factory) (F.may_leave self.new.factory) (F.may_make self.new.factory) (length self.new.services.slots.items) self.old.hand self.new.hand }
         ensures no_ready { TellsNoReady self.old.hand self.new.hand }
@@ -173,14 +174,15 @@ impl<L: Link, F: ServerServiceFactory<L>> Worker<L, F> {
         <F::Factory as ServiceFactory<L>>::InitError,
     >
         requires stopped { self.old.hand.stopped ≡ true }
-        requires works { Works F.Factory.Future.Future F.Factory.Service.Service F.Factory.Service.Future.Future F.Factory.Service.Future.may_stand
+        requires works { Works F.Factory.ServiceFactory F.Factory.Future.Future F.Factory.Service.Service F.Factory.Service.Future.Future F.Factory.Service.Future.may_stand
             (F.may_serve self.old.factory) (F.may_leave self.old.factory) (F.may_ready self.old.factory) (F.may_init self.old.factory) (F.may_make self.old.factory) self.old.services self.old.hand }
-        ensures works { Works F.Factory.Future.Future F.Factory.Service.Service F.Factory.Service.Future.Future F.Factory.Service.Future.may_stand
+        ensures works { Works F.Factory.ServiceFactory F.Factory.Future.Future F.Factory.Service.Service F.Factory.Service.Future.Future F.Factory.Service.Future.may_stand
             (F.may_serve self.new.factory) (F.may_leave self.new.factory) (F.may_ready self.new.factory) (F.may_init self.new.factory) (F.may_make self.new.factory) self.new.services self.new.hand }
         ensures factory { self.new.factory ≡ self.old.factory }
         ensures slots { self.new.services.slots ≡ self.old.services.slots }
         ensures core { self.new.services.core ≡ self.old.services.core }
         ensures made { self.new.services.made ≡ self.old.services.made }
+        ensures factories { self.new.services.factories ≡ self.old.services.factories }
         ensures accounts { Accounts L.identity self.old.hand self.new.hand }
         ensures tells { Tells (F.may_serve self.new.factory) (F.may_leave self.new.factory) (F.may_make self.new.factory) (length self.new.services.slots.items) self.old.hand self.new.hand }
         ensures no_ready { TellsNoReady self.old.hand self.new.hand }

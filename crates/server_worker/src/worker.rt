@@ -12,6 +12,7 @@ pub struct Worker<L: Link, F: ServerServiceFactory<L>> {
         F::Factory,
         <F::Factory as ServiceFactory<L>>::Future,
         <F::Factory as ServiceFactory<L>>::Service,
+        <F::Factory as ServiceFactory<L>>::Error,
     >,
     pub(crate) hand: Connections<
         L,

@@ -10,6 +10,8 @@ mod echo;
 #[cfg(test)]
 mod ends;
 #[cfg(test)]
+mod fault_tests;
+#[cfg(test)]
 mod held;
 #[cfg(test)]
 mod kind;

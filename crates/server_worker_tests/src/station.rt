@@ -1,6 +1,5 @@
 //! A worker as it is turned.
-ghost use Rattle.std.specs.Prelude.{◌≡◌, ℕ, IfOk, IfNone, Err};
-ghost use Rattle.futures.specs.declared.task.Poll.TheVariants.{Ready as PollReady};
+ghost use Rattle.std.specs.Prelude.{◌≡◌, IfOk, IfNone};
 ghost use Rattle.server_worker.specs.Turn.{Works};
 ghost use Rattle.server_worker.specs.Workers.{factory_of, hand_of, services_of};
 
@@ -30,8 +29,15 @@ pub(crate) enum Ending {
         /// The token that the error names.
         named: usize,
     },
-    /// A service was no longer ready.
-    Faulted,
+    /// A service that erred could not be made anew.
+    Faulted {
+        /// The token.
+        token: usize,
+        /// The token that the error of its readiness names.
+        erred: usize,
+        /// The token that the error of its factory names.
+        named: usize,
+    },
     /// Its queue was shut down.
     Shut,
 }
@@ -64,8 +70,7 @@ impl<
     L: Link,
     F: ServerServiceFactory<L, Factory: ServiceFactory<L, Error = Fault, InitError = Refusal>>,
 > Station for Shift<L, F> {
-    ghost goes_on = { λ s. ((token : ℕ) (e : _) → F.may_ready (factory_of s.worker) token (PollReady (Err e)) → ⊥)
-        × Works F.Factory.Future.Future F.Factory.Service.Service F.Factory.Service.Future.Future F.Factory.Service.Future.may_stand
+    ghost goes_on = { λ s. Works F.Factory.ServiceFactory F.Factory.Future.Future F.Factory.Service.Service F.Factory.Service.Future.Future F.Factory.Service.Future.may_stand
         (F.may_serve (factory_of s.worker)) (F.may_leave (factory_of s.worker)) (F.may_ready (factory_of s.worker)) (F.may_init (factory_of s.worker)) (F.may_make (factory_of s.worker)) (services_of s.worker) (hand_of s.worker) };
 
     fn turn(&mut self, cx: &mut Context<'_>) -> Option<Ending> {
@@ -83,7 +88,15 @@ impl<
                 token,
                 named: error.token,
             }),
-            Turned::Faulted { .. } => Some(Ending::Faulted),
+            Turned::Faulted {
+                token,
+                readiness,
+                error,
+            } => Some(Ending::Faulted {
+                token,
+                erred: readiness.token,
+                named: error.token,
+            }),
         }
     }
 
@@ -107,7 +120,7 @@ where
     L: Link,
     F: ServerServiceFactory<L>,
     ensures factory { IfOk result (λ w. factory_of w ≡ factory) }
-    ensures works { IfOk result (λ w. Works F.Factory.Future.Future F.Factory.Service.Service F.Factory.Service.Future.Future F.Factory.Service.Future.may_stand
+    ensures works { IfOk result (λ w. Works F.Factory.ServiceFactory F.Factory.Future.Future F.Factory.Service.Service F.Factory.Service.Future.Future F.Factory.Service.Future.may_stand
         (F.may_serve (factory_of w)) (F.may_leave (factory_of w)) (F.may_ready (factory_of w)) (F.may_init (factory_of w)) (F.may_make (factory_of w)) (services_of w) (hand_of w)) }
 {
     match Worker::new(alloc, parcels, notes, factory, LISTENERS) {

@@ -10,8 +10,8 @@ use std::test::Fail;
 // What a worker comes to that is left with nothing.
 const LEFT: Option<Ending> = Some(Ending::Left(true));
 
-// How a worker of such services is turned, over large rings, that is stopped before that turn.
-fn of(plan: Plan, stop: u32) -> Trial {
+/// How a worker of such services is turned, over large rings, that is stopped before that turn.
+pub(crate) fn of(plan: Plan, stop: u32) -> Trial {
     Trial {
         plan,
         inward: 256,
@@ -33,8 +33,13 @@ pub(crate) fn mixed(alloc: Global, count: u32, a_turn: u32) -> Result<Ledger, Al
     Ok(ledger)
 }
 
-// So many connections of one kind and one token, which are sent before the first turn.
-fn alike(alloc: Global, count: u32, token: usize, kind: Kind) -> Result<Ledger, AllocError> {
+/// So many connections of one kind and one token, which are sent before the first turn.
+pub(crate) fn alike(
+    alloc: Global,
+    count: u32,
+    token: usize,
+    kind: Kind,
+) -> Result<Ledger, AllocError> {
     let mut ledger = Ledger::new(alloc);
     for _ in 0..count {
         ledger.add(token, kind, 0)?;
@@ -42,8 +47,8 @@ fn alike(alloc: Global, count: u32, token: usize, kind: Kind) -> Result<Ledger, 
     Ok(ledger)
 }
 
-// Whether the worker comes to this, and all came back but for so many.
-fn comes_to<R: Given>(
+/// Whether the worker comes to this, and all came back but for so many.
+pub(crate) fn comes_to<R: Given>(
     rt: &R,
     trial: Trial,
     ledger: &mut Ledger,
@@ -83,7 +88,7 @@ fn is_named<R: Given>(rt: &R, token: usize) -> Result<bool, AllocError> {
     let plan = Plan {
         waits: 1,
         refused: Some(token),
-        unready: 0,
+        ..PLAIN
     };
     let refused = Some(Ending::Unstarted {
         token,
@@ -102,8 +107,8 @@ fn a_worker_names_the_token_that_is_refused(rt: HostRuntime) -> Result<(), Fail>
     Ok(())
 }
 
-// Whether all services stand at the turn `ready`, and none was served before the turn `first`.
-fn are_served_from<R: Given>(
+/// Whether all services stand at the turn `ready`, and none was served before the turn `first`.
+pub(crate) fn are_served_from<R: Given>(
     rt: &R,
     plan: Plan,
     ready: u32,

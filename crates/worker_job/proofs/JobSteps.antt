@@ -12,6 +12,7 @@ use Rattle.service_core.specs.Link.{Identity}
 use Rattle.service_core.specs.Meaning.{Readiness}
 use Rattle.service_core.specs.declared.ended.Ended.{Ended}
 use Rattle.service_core.specs.declared.service.Service.{Ghosts as ServiceOf}
+use Rattle.service_core.specs.declared.service_factory.ServiceFactory.{Ghosts as FactoryOf}
 use Rattle.server_jobs.specs.Cards.{Card, of_note, of_parcel, of_waiting}
 use Rattle.server_jobs.specs.Joins.{Accounts as JobAccounts}
 use Rattle.server_jobs.specs.declared.handed.Handed.{Handed}
@@ -21,7 +22,7 @@ use Rattle.server_worker.specs.Holding.{Accounts, of_live}
 use Rattle.server_worker.specs.Leaving.{HasStayed, Leaves, Runs}
 use Rattle.server_worker.specs.Room.{IsFresh}
 use Rattle.server_worker.specs.Sound.{IsSound, IsTold, Tells}
-use Rattle.server_worker.specs.Stops.{is_stop}
+use Rattle.server_jobs.specs.Parcels.{is_stop}
 use Rattle.server_worker.specs.Taken.{Receives}
 use Rattle.server_worker.specs.Telling.{TellsFault, TellsReady, newly}
 use Rattle.server_worker.specs.Turn.{Works}
@@ -42,11 +43,11 @@ use Rattle.worker_job.specs.declared.worker_job.WorkerJob.{WorkerJob}
 abbrev RunsBy : {L F Fut : Type 0} → (L → Identity) → (F → ℕ → L → Ended L → Type 0) → (F → ℕ → L → L → Type 0) → (F → ℕ → Type 0) → F → ℕ → Connections L Fut → Connections L Fut → Type 0
 RunsBy identity may_serve may_leave may_make f n a b = Runs identity (may_serve f) (may_leave f) (may_make f) n a b
 
-module _ {L F Fac E S I MFut Fut : Type 0} (mg : FutureOf MFut (Result S I)) (sg : ServiceOf S L (Ended L) E Fut) (g : FutureOf Fut (Result (Ended L) E)) (may_stand : Fut → L → Type 0)
+module _ {L F Fac E S I MFut Fut : Type 0} (fg : FactoryOf Fac L (Ended L) E (Unit {0}) S I MFut Fut) (mg : FutureOf MFut (Result S I)) (sg : ServiceOf S L (Ended L) E Fut) (g : FutureOf Fut (Result (Ended L) E)) (may_stand : Fut → L → Type 0)
     (identity : L → Identity) (may_serve : F → ℕ → L → Ended L → Type 0) (may_leave : F → ℕ → L → L → Type 0) (may_ready : F → ℕ → Readiness E → Type 0)
     (may_init : F → ℕ → I → Type 0) (may_make : F → ℕ → Type 0) where
   -- no turn
-  pub turns_none : (a : Worker L F Fac E S I MFut Fut) → CanTurn mg sg g may_stand may_serve may_leave may_ready may_init may_make a
+  pub turns_none : (a : Worker L F Fac E S I MFut Fut) → CanTurn fg mg sg g may_stand may_serve may_leave may_ready may_init may_make a
       → Turns g may_stand identity may_serve may_leave may_make a a
   turns_none a can = record {
     same_factory = refl;
@@ -82,10 +83,14 @@ module _ {L F Fac E S I MFut Fut : Type 0} (mg : FutureOf MFut (Result S I)) (sg
   })
 
   -- the readiness of the same factory never errs
+  pub never_still : (f k : F) → k ≡ f → ((token : ℕ) (e : E) → may_ready f token (PollReady (Err e)) → ⊥) → (token : ℕ) (e : E) → may_ready k token (PollReady (Err e)) → ⊥
+  never_still f k same never token e may = never token e (subst (λ x. may_ready x token (PollReady (Err e))) same may)
+
+  -- so it may make a turn
   pub can_turn : (f : F) (b : Worker L F Fac E S I MFut Fut) → factory_of b ≡ f
       → ((token : ℕ) (e : E) → may_ready f token (PollReady (Err e)) → ⊥)
-      → Works mg sg g may_stand (may_serve (factory_of b)) (may_leave (factory_of b)) (may_ready (factory_of b)) (may_init (factory_of b)) (may_make (factory_of b)) (services_of b) (hand_of b)
-      → CanTurn mg sg g may_stand may_serve may_leave may_ready may_init may_make b
+      → Works fg mg sg g may_stand (may_serve (factory_of b)) (may_leave (factory_of b)) (may_ready (factory_of b)) (may_init (factory_of b)) (may_make (factory_of b)) (services_of b) (hand_of b)
+      → CanTurn fg mg sg g may_stand may_serve may_leave may_ready may_init may_make b
   can_turn f b same never works = record {
     works = works;
     never_errs = λ token e may. never token e (subst (λ k. may_ready k token (PollReady (Err e))) same may);
@@ -109,7 +114,7 @@ newly_none n false = refl
 pub announces_none : {L Fut : Type 0} (a : Connections L Fut) → Announces a a
 announces_none a = record { once = λ f nothing. omega (arith, newly_none (f Ready) a.told); stays = λ was. was }
 
-pub announces_more : {L Fut MFut S : Type 0} (slots : List (Slot MFut S)) (a b c : Connections L Fut) → Announces a b → TellsReady slots b c → Announces a c
+pub announces_more : {L Fut MFut S E : Type 0} (slots : List (Slot MFut S E)) (a b c : Connections L Fut) → Announces a b → TellsReady slots b c → Announces a c
 announces_more slots a b c p q = record {
   once = λ f nothing. omega (arith, p.once f nothing, q.once f nothing, newly_trans (f Ready) a.told b.told c.told p.stays q.stays);
   stays = λ was. q.stays (p.stays was);

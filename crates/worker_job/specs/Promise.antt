@@ -13,7 +13,7 @@ use Rattle.server_jobs.specs.declared.note.Note.TheVariants.{Ready, Faulted}
 use Rattle.server_jobs.specs.declared.parcel.Parcel.{Parcel}
 use Rattle.server_worker.specs.Leaving.{HasStayed}
 use Rattle.server_worker.specs.Sound.{IsTold}
-use Rattle.server_worker.specs.Stops.{is_stop}
+use Rattle.server_jobs.specs.Parcels.{is_stop}
 use Rattle.server_worker.specs.Telling.{WeighsSignals}
 use Rattle.worker_job.specs.Jobs.{factory_of, listeners_of, notes_of, parcels_of}
 use Rattle.worker_job.specs.declared.departure.Departure.{Departure}

@@ -6,6 +6,7 @@ use Rattle.service_core.specs.Link.{Identity}
 use Rattle.service_core.specs.Meaning.{Readiness}
 use Rattle.service_core.specs.declared.ended.Ended.{Ended}
 use Rattle.service_core.specs.declared.service.Service.{Ghosts as ServiceOf}
+use Rattle.service_core.specs.declared.service_factory.ServiceFactory.{Ghosts as FactoryOf}
 use Rattle.server_jobs.specs.declared.note.Note.{Note}
 use Rattle.server_jobs.specs.declared.note.Note.TheVariants.{Ready}
 use Rattle.server_worker.specs.Leaving.{Runs}
@@ -21,10 +22,10 @@ use Rattle.worker_job.specs.declared.departure.Departure.{Departure}
 use Rattle.worker_job.specs.declared.worker_job.WorkerJob.{WorkerJob}
 
 -- The worker may make a turn, at which no service errs in its readiness.
-pub record CanTurn {L F Fac E S I MFut Fut : Type 0} (mg : FutureOf MFut (Result S I)) (sg : ServiceOf S L (Ended L) E Fut) (g : FutureOf Fut (Result (Ended L) E))
+pub record CanTurn {L F Fac E S I MFut Fut : Type 0} (fg : FactoryOf Fac L (Ended L) E (Unit {0}) S I MFut Fut) (mg : FutureOf MFut (Result S I)) (sg : ServiceOf S L (Ended L) E Fut) (g : FutureOf Fut (Result (Ended L) E))
     (may_stand : Fut → L → Type 0) (may_serve : F → ℕ → L → Ended L → Type 0) (may_leave : F → ℕ → L → L → Type 0) (may_ready : F → ℕ → Readiness E → Type 0)
     (may_init : F → ℕ → I → Type 0) (may_make : F → ℕ → Type 0) (w : Worker L F Fac E S I MFut Fut) : Type 0 where
-  pub works : Works mg sg g may_stand (may_serve (factory_of w)) (may_leave (factory_of w)) (may_ready (factory_of w)) (may_init (factory_of w)) (may_make (factory_of w))
+  pub works : Works fg mg sg g may_stand (may_serve (factory_of w)) (may_leave (factory_of w)) (may_ready (factory_of w)) (may_init (factory_of w)) (may_make (factory_of w))
       (services_of w) (hand_of w)
   pub never_errs : (token : ℕ) (e : E) → may_ready (factory_of w) token (PollReady (Err e)) → ⊥
 

@@ -61,7 +61,7 @@ where
     Ho: Wait + Clock,
     L: Link,
     F: ServerServiceFactory<L, Factory: ServiceFactory<L, InitError: Drop>>,
-    requires can { CanTurn F.Factory.Future.Future F.Factory.Service.Service F.Factory.Service.Future.Future F.Factory.Service.Future.may_stand
+    requires can { CanTurn F.Factory.ServiceFactory F.Factory.Future.Future F.Factory.Service.Service F.Factory.Service.Future.Future F.Factory.Service.Future.may_stand
         F.may_serve F.may_leave F.may_ready F.may_init F.may_make worker.old }
     requires fresh { IsFresh (hand_of worker.old) }
     ensures turns { Turns F.Factory.Service.Future.Future F.Factory.Service.Future.may_stand L.identity F.may_serve F.may_leave F.may_make worker.old worker.new }
@@ -97,7 +97,7 @@ fn lack_memory<L, F>(
 where
     L: Link,
     F: ServerServiceFactory<L>,
-    requires can { CanTurn F.Factory.Future.Future F.Factory.Service.Service F.Factory.Service.Future.Future F.Factory.Service.Future.may_stand
+    requires can { CanTurn F.Factory.ServiceFactory F.Factory.Future.Future F.Factory.Service.Service F.Factory.Service.Future.Future F.Factory.Service.Future.may_stand
         F.may_serve F.may_leave F.may_ready F.may_init F.may_make worker.old }
     requires fresh { IsFresh (hand_of worker.old) }
     requires none_held { held_by worker.old ≡ 0 }
@@ -119,7 +119,7 @@ where
     Ho: Clone + Drop + Wait + Clock,
     L: Link,
     F: ServerServiceFactory<L, Factory: ServiceFactory<L, InitError: Drop>>,
-    requires can { CanTurn F.Factory.Future.Future F.Factory.Service.Service F.Factory.Service.Future.Future F.Factory.Service.Future.may_stand
+    requires can { CanTurn F.Factory.ServiceFactory F.Factory.Future.Future F.Factory.Service.Service F.Factory.Service.Future.Future F.Factory.Service.Future.may_stand
         F.may_serve F.may_leave F.may_ready F.may_init F.may_make worker.old }
     requires fresh { IsFresh (hand_of worker.old) }
     requires none_held { held_by worker.old ≡ 0 }
@@ -156,7 +156,7 @@ where
     Ho: Clone + Drop + Wait + Clock,
     L: Link,
     F: ServerServiceFactory<L, Factory: ServiceFactory<L, InitError: Drop>>,
-    requires can { CanTurn F.Factory.Future.Future F.Factory.Service.Service F.Factory.Service.Future.Future F.Factory.Service.Future.may_stand
+    requires can { CanTurn F.Factory.ServiceFactory F.Factory.Future.Future F.Factory.Service.Service F.Factory.Service.Future.Future F.Factory.Service.Future.may_stand
         F.may_serve F.may_leave F.may_ready F.may_init F.may_make worker }
     requires fresh { IsFresh (hand_of worker) }
     requires none_held { held_by worker ≡ 0 }

@@ -1,4 +1,5 @@
 use Rattle.std.proofs.Common.{◌∙◌, refl, ap}
+use Rattle.server.proofs.HearSteps.{gave_none, gave_on}
 use Rattle.server.proofs.Rows.{lines_join, runs_kept}
 use Rattle.server.proofs.Starts.{as_many_rings, not_told}
 use Rattle.server.proofs.running.serve_by.Goals as goal
@@ -15,3 +16,15 @@ join_all-requires-clause-lines g c κs within =
 
 pub returns-in-Some-clause-unrefused : goal.returns-in-Some-clause-unrefused
 returns-in-Some-clause-unrefused g c other = ap (λ counts. counts.1) c.wake_all.ensures ∙ c.in-Some.ensures.unrefused (not_told c.in-Some.fault _ c.error.result c.error.ensures other)
+
+pub returns-then-is_empty-clause-heard : goal.returns-then-is_empty-clause-heard
+returns-then-is_empty-clause-heard g c = gave_none g.Co.Commands.given g.Co.Commands.stops c.args.commands.now
+
+pub returns-in_err-room-clause-heard : goal.returns-in_err-room-clause-heard
+returns-in_err-room-clause-heard g c = gave_on g.Co.Commands.given g.Co.Commands.stops c.args.commands.now c.from_residual.result
+
+pub returns-in_err-running-clause-heard : goal.returns-in_err-running-clause-heard
+returns-in_err-running-clause-heard g c = gave_on g.Co.Commands.given g.Co.Commands.stops c.args.commands.now c.from_residual-in_err-running.result
+
+pub returns-in-Some-clause-heard : goal.returns-in-Some-clause-heard
+returns-in-Some-clause-heard g c = gave_none g.Co.Commands.given g.Co.Commands.stops c.args.commands.now

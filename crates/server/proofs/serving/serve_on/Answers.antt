@@ -1,7 +1,7 @@
 use Rattle.std.proofs.Common.{◌≤◌, ◌+◌, All, map, sum_by, subst, sym, ap, ◌∙◌, arith}
 use Rattle.server_acceptor.specs.Rings.{ring_in, ring_out}
 use Rattle.server.proofs.FinishSteps.{fewer_after, in_time_all, joins_after, made_all, many_after, none_of, refuses, room_after, startup_is, tells_run, untold_start}
-use Rattle.server.proofs.HearSteps.{is_told}
+use Rattle.server.proofs.HearSteps.{gave, is_told}
 use Rattle.server.specs.Returning.{many_back, many_put}
 use Rattle.server.specs.Rows.{lines_of}
 use Rattle.server_acceptor.specs.Acceptors.{parcels_of}
@@ -89,3 +89,6 @@ pub accept_on-end-requires-clause-fresh : goal.accept_on-end-requires-clause-fre
 accept_on-end-requires-clause-fresh g c =
     untold_start g.F.ServerServiceFactory.may_serve g.F.ServerServiceFactory.may_leave g.F.ServerServiceFactory.may_ready g.F.ServerServiceFactory.may_init g.F.ServerServiceFactory.may_make
     _ _ _ _ _ c.args.acceptor c.args.running.items c.requires.fresh c.requires.as_many c.requires.started
+
+pub returns-in_default-clause-heard : goal.returns-in_default-clause-heard
+returns-in_default-clause-heard g c = gave g.Co.Commands.given g.Co.Commands.stops g.Co.Commands.ended _ _ _ c.accept_on-end.ensures.hears.commanded

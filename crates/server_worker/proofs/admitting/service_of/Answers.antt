@@ -1,9 +1,10 @@
 use Rattle.server_worker.specs.Standing.{IsSlot}
-use Rattle.server_worker.proofs.AdmitSteps.{is_made, of_slot}
+use Rattle.server_worker.proofs.AdmitSteps.{not_standing, of_slot, stands_at}
 use Rattle.server_worker.proofs.admitting.service_of.Goals as goal
 
 pub unreachable-requires : goal.unreachable-requires
-unreachable-requires g c = let made = is_made _ _ c.index.result.now c.requires.inside c.index.ensures c.requires.made in rw c.in-Making.is at made
+unreachable-requires g c = absurd (not_standing c.index.result.now c.in_default.not-Made
+    (stands_at c.args.services.now.slots.items c.args.services.now.core c.args.token c.index.result.now c.requires.inside c.args.services.now.as_many c.index.ensures c.args.services.now.fits c.requires.available))
 
 pub returns : goal.returns
 returns g c =

@@ -6,7 +6,8 @@ use Rattle.server_core.specs.declared.event.Event.TheVariants.{Notice, RingFull}
 use Rattle.server_acceptor.proofs.HandSteps.{in_turn_kept}
 use Rattle.server_acceptor.proofs.PlaceSteps.{back_again, below_limit, keeps_sent, no_place_at, no_place_other, no_place_still, puts_at, out_fits, patient_kept, ruled_after_sent, ruled_full, sum_higher}
 use Rattle.server_acceptor.specs.Placing.{parcel_of}
-use Rattle.server_acceptor.proofs.Sendings.{are_forced_kept, are_forced_put}
+use Rattle.server_acceptor.proofs.Sendings.{are_sent_kept, are_sent_put}
+use Rattle.server_jobs.specs.Parcels.{is_force, is_stop}
 use Rattle.server_acceptor.proofs.acceptor.Acceptor.offer.Goals as goal
 
 pub overflow_add-remains : goal.overflow_add-remains
@@ -79,9 +80,17 @@ pub overflow_add-self : goal.overflow_add-self
 overflow_add-self g c = omega (arith, c.args.self.now.out_counted, out_fits _ c.log.ensures.kept, sum_higher c.args.self.now.core.out c.args.w c.requires.number, ap (λ (s : Core). sum s.out) c.log.ensures.core)
 
 pub invariant_of-self-clause-forced_sent : goal.invariant_of-self-clause-forced_sent
-invariant_of-self-clause-forced_sent g c = are_forced_put c.args.self.now.parcels.items _ c.args.self.now.forced.items c.args.w (parcel_of c.in-Some.waiting)
+invariant_of-self-clause-forced_sent g c = are_sent_put c.args.self.now.parcels.items _ is_force c.args.self.now.forced.items c.args.w (parcel_of c.in-Some.waiting)
     (puts_at _ c.args.w c.index_mut.result.now c.push.new.self (parcel_of c.in-Some.waiting) (search rules) c.index_mut.ensures.value c.push.ensures.ring (search rules)) c.args.self.now.forced_sent
 
 pub invariant_of-self-in-Err-Full-clause-forced_sent : goal.invariant_of-self-in-Err-Full-clause-forced_sent
-invariant_of-self-in-Err-Full-clause-forced_sent g c = are_forced_kept c.args.self.now.parcels.items _ c.args.self.now.forced.items
+invariant_of-self-in-Err-Full-clause-forced_sent g c = are_sent_kept c.args.self.now.parcels.items _ is_force c.args.self.now.forced.items
     (keeps_sent _ c.args.w c.index_mut.result.now c.push.new.self c.index_mut.ensures.value c.push.ensures.ring (search rules)) c.args.self.now.forced_sent
+
+pub invariant_of-self-clause-stopped_sent : goal.invariant_of-self-clause-stopped_sent
+invariant_of-self-clause-stopped_sent g c = are_sent_put c.args.self.now.parcels.items _ is_stop c.args.self.now.stopped.items c.args.w (parcel_of c.in-Some.waiting)
+    (puts_at _ c.args.w c.index_mut.result.now c.push.new.self (parcel_of c.in-Some.waiting) (search rules) c.index_mut.ensures.value c.push.ensures.ring (search rules)) c.args.self.now.stopped_sent
+
+pub invariant_of-self-in-Err-Full-clause-stopped_sent : goal.invariant_of-self-in-Err-Full-clause-stopped_sent
+invariant_of-self-in-Err-Full-clause-stopped_sent g c = are_sent_kept c.args.self.now.parcels.items _ is_stop c.args.self.now.stopped.items
+    (keeps_sent _ c.args.w c.index_mut.result.now c.push.new.self c.index_mut.ensures.value c.push.ensures.ring (search rules)) c.args.self.now.stopped_sent

@@ -2,7 +2,8 @@ use Rattle.std.proofs.Common.{◌<◌, length, ◌∙◌, arith, rules}
 use Rattle.std.proofs.Math.ListN.{length-set}
 use Rattle.server_jobs.specs.declared.parcel.Parcel.TheVariants.{Stop}
 use Rattle.server_acceptor.proofs.PlaceSteps.{keeps_sent, no_place_at, no_place_other, puts_at}
-use Rattle.server_acceptor.proofs.Sendings.{are_forced_pushed}
+use Rattle.server_acceptor.proofs.Sendings.{are_sent_pushed}
+use Rattle.server_jobs.specs.Parcels.{is_force, is_stop}
 use Rattle.server_acceptor.proofs.acceptor.Acceptor.push_stop.Goals as goal
 
 pub invariant_of-self : goal.invariant_of-self
@@ -27,7 +28,8 @@ invariant_of-self g c =
       fits = a.fits;
       early = a.early;
       agrees = a.agrees;
-      forced_sent = are_forced_pushed a.parcels.items a.forced.items c.args.w c.index_mut.result.now c.push.new.self (Stop c.args.graceful) c.push.result inside c.index_mut.ensures.value c.push.ensures.ring c.push.ensures.ok c.push.ensures.full a.forced_sent;
+      stopped_sent = are_sent_pushed a.parcels.items is_stop a.stopped.items c.args.w c.index_mut.result.now c.push.new.self (Stop c.args.graceful) c.push.result inside c.index_mut.ensures.value c.push.ensures.ring c.push.ensures.ok c.push.ensures.full a.stopped_sent;
+      forced_sent = are_sent_pushed a.parcels.items is_force a.forced.items c.args.w c.index_mut.result.now c.push.new.self (Stop c.args.graceful) c.push.result inside c.index_mut.ensures.value c.push.ensures.ring c.push.ensures.ok c.push.ensures.full a.forced_sent;
       patient = a.patient;
       in_turn = a.in_turn;
       rule = a.rule;

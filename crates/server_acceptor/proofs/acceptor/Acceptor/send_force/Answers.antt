@@ -1,7 +1,9 @@
-use Rattle.std.proofs.Common.{true, false, inl, inr, refl, ◌∙◌, rules}
+use Rattle.std.proofs.Common.{◌<◌, length, true, false, inl, inr, refl, sym, ◌∙◌, arith, rules}
+use Rattle.std.proofs.lemmas.List.{get_or_default}
 use Rattle.std.proofs.Math.ListN.{length-set}
-use Rattle.server_acceptor.proofs.Sendings.{are_forced_marked, forced_now}
+use Rattle.server_acceptor.proofs.Sendings.{are_sent_marked, forced_now, stop_of_force, stopped_now}
 use Rattle.server_acceptor.proofs.StopSteps.{stop_proceeds}
+use Rattle.server_jobs.specs.Parcels.{is_force, is_stop}
 use Rattle.server_acceptor.proofs.acceptor.Acceptor.send_force.Goals as goal
 
 pub returns-then-index-clause-proceeds : goal.returns-then-index-clause-proceeds
@@ -19,11 +21,24 @@ returns-clause-proceeds g c ls d =
     stop_proceeds g.Li.Listener.given g.Li.Listener.left g.Li.Listener.rest g.L.Link.identity g.Li.Listener.ended g.Li.Listener.faults g.Do.Done.taken g.Do.Done.count g.Do.Done.served ls c.args.self.now _ d (g.met.Do.Done.small d) (record { core = o.core; events = o.events; notes = o.notes; ready = o.ready; waiting = o.waiting; serial = o.serial; places = o.places; failed = o.failed; first = o.first; retry_limit = o.retry_limit; shutdown_timeout = o.shutdown_timeout; lacks_room = o.lacks_room; stop = o.stop }) (inr (c.args.w, false, p)) p.rings
 
 pub invariant_of-self-2-clause-forced_sent : goal.invariant_of-self-2-clause-forced_sent
-invariant_of-self-2-clause-forced_sent g c = are_forced_marked c.push_stop.new.self.parcels.items c.push_stop.new.self.forced.items c.args.w
+invariant_of-self-2-clause-forced_sent g c = are_sent_marked c.push_stop.new.self.parcels.items is_force c.push_stop.new.self.forced.items c.args.w
     (forced_now c.args.self.now.parcels.items c.push_stop.new.self.parcels.items c.args.w (c.push_stop.ensures.puts (search rules))) c.push_stop.new.self.forced_sent
+
+pub invariant_of-self-2-clause-stopped_sent : goal.invariant_of-self-2-clause-stopped_sent
+invariant_of-self-2-clause-stopped_sent g c = are_sent_marked c.push_stop.new.self.parcels.items is_stop c.push_stop.new.self.stopped.items c.args.w
+    (stopped_now c.args.self.now.parcels.items c.push_stop.new.self.parcels.items c.args.w false (c.push_stop.ensures.puts (search rules))) c.push_stop.new.self.stopped_sent
+
+pub invariant_of-self-clause-stopped_sent : goal.invariant_of-self-clause-stopped_sent
+invariant_of-self-clause-stopped_sent g c =
+    let inside : c.args.w < length c.args.self.now.forced.items = omega (arith, c.requires.number, c.args.self.now.as_many_forced, c.args.self.now.workers.0) in
+    are_sent_marked c.args.self.now.parcels.items is_stop c.args.self.now.stopped.items c.args.w
+    (stop_of_force c.args.self.now.parcels.items c.args.w (c.args.self.now.forced_sent c.args.w (get_or_default c.args.self.now.forced.items c.args.w false c.index.result.now inside ∙ sym c.index.ensures ∙ c.if-index.true))) c.args.self.now.stopped_sent
 
 pub invariant_of-self-2-clause-workers : goal.invariant_of-self-2-clause-workers
 invariant_of-self-2-clause-workers g c = let w = c.push_stop.new.self.workers in (w.0, w.1, w.2, length-set c.push_stop.new.self.stopped.items c.args.w true ∙ w.3)
 
 pub invariant_of-self-2-clause-as_many_forced : goal.invariant_of-self-2-clause-as_many_forced
 invariant_of-self-2-clause-as_many_forced g c = length-set c.push_stop.new.self.forced.items c.args.w true ∙ c.push_stop.new.self.as_many_forced
+
+pub invariant_of-self-clause-workers : goal.invariant_of-self-clause-workers
+invariant_of-self-clause-workers g c = let w = c.args.self.now.workers in (w.0, w.1, w.2, length-set c.args.self.now.stopped.items c.args.w true ∙ w.3)

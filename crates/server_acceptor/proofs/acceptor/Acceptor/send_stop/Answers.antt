@@ -1,7 +1,9 @@
-use Rattle.std.proofs.Common.{true, inl, inr, refl, rules}
+use Rattle.std.proofs.Common.{true, inl, inr, refl, ◌∙◌, rules}
 use Rattle.server_jobs.specs.declared.parcel.Parcel.TheVariants.{Stop}
-use Rattle.server_acceptor.proofs.Sendings.{forced_kept, forced_put}
+use Rattle.std.proofs.Math.ListN.{length-set}
+use Rattle.server_acceptor.proofs.Sendings.{are_sent_marked, forced_kept, forced_put, stopped_now}
 use Rattle.server_acceptor.proofs.StopSteps.{stop_proceeds, stops_none}
+use Rattle.server_jobs.specs.Parcels.{is_stop}
 use Rattle.server_acceptor.proofs.acceptor.Acceptor.send_stop.Goals as goal
 
 pub returns-then-index-clause-proceeds : goal.returns-then-index-clause-proceeds
@@ -23,3 +25,10 @@ returns-clause-proceeds g c ls d =
 
 pub returns-clause-forces : goal.returns-clause-forces
 returns-clause-forces g c v is = forced_put c.args.self.now.parcels.items c.push_stop.new.self.parcels.items c.args.w v (Stop true) refl (c.push_stop.ensures.puts (search rules)) is
+
+pub invariant_of-self-clause-stopped_sent : goal.invariant_of-self-clause-stopped_sent
+invariant_of-self-clause-stopped_sent g c = are_sent_marked c.push_stop.new.self.parcels.items is_stop c.push_stop.new.self.stopped.items c.args.w
+    (stopped_now c.args.self.now.parcels.items c.push_stop.new.self.parcels.items c.args.w true (c.push_stop.ensures.puts (search rules))) c.push_stop.new.self.stopped_sent
+
+pub invariant_of-self-clause-workers : goal.invariant_of-self-clause-workers
+invariant_of-self-clause-workers g c = let w = c.push_stop.new.self.workers in (w.0, w.1, w.2, length-set c.push_stop.new.self.stopped.items c.args.w true ∙ w.3)

@@ -120,6 +120,7 @@ invariant_of-self-2 g c =
       fits = a.fits;
       early = a.early;
       agrees = a.agrees;
+      stopped_sent = a.stopped_sent;
       forced_sent = a.forced_sent;
       patient = a.patient;
       in_turn = a.in_turn;

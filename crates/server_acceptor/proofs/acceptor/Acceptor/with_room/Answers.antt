@@ -4,7 +4,8 @@ use Rattle.server_core.specs.Core.{Core}
 use Rattle.server_acceptor.proofs.HandSteps.{AreInTurn}
 use Rattle.server_acceptor.proofs.NewSteps.{new_in_turn, new_patient, new_ruled, new_small, new_sum}
 use Rattle.server_acceptor.proofs.PlaceSteps.{IsPatient, IsRuled}
-use Rattle.server_acceptor.proofs.Sendings.{are_forced_none}
+use Rattle.server_acceptor.proofs.Sendings.{are_sent_none}
+use Rattle.server_jobs.specs.Parcels.{is_force, is_stop}
 use Rattle.server_acceptor.proofs.acceptor.Acceptor.with_room.Goals as goal
 
 pub invariant_of-result-clause-small : goal.invariant_of-result-clause-small
@@ -23,4 +24,7 @@ pub invariant_of-result-clause-rule : goal.invariant_of-result-clause-rule
 invariant_of-result-clause-rule g c = subst (λ (s : Core). IsRuled s c.args.limit) (sym c.new-core.ensures.value) (new_ruled _ c.args.listeners c.args.limit c.requires.some_connections)
 
 pub invariant_of-result-clause-forced_sent : goal.invariant_of-result-clause-forced_sent
-invariant_of-result-clause-forced_sent g c = are_forced_none c.args.parcels.items _ _ c.requires.room.forced
+invariant_of-result-clause-forced_sent g c = are_sent_none c.args.parcels.items is_force _ _ c.requires.room.forced
+
+pub invariant_of-result-clause-stopped_sent : goal.invariant_of-result-clause-stopped_sent
+invariant_of-result-clause-stopped_sent g c = are_sent_none c.args.parcels.items is_stop _ _ c.requires.room.stopped

@@ -1,6 +1,6 @@
-use Rattle.std.proofs.Common.{◌∙◌, refl, rules, sym, true, false, true≢false}
+use Rattle.std.proofs.Common.{◌∙◌, ap, refl, rules, sym, true, false, true≢false}
 use Rattle.server_worker.proofs.Accounting.{accounts_trans}
-use Rattle.server_worker.proofs.AskSteps.{asks_asking, asks_stopped}
+use Rattle.server_worker.proofs.AskSteps.{checks_going, checks_stopped}
 use Rattle.server_worker.proofs.ServeSteps.{turn_no_ready}
 use Rattle.server_worker.proofs.StopTurns.{taken_gives_up, taken_polls, taken_ready, taken_returns, taken_tells, taken_told}
 use Rattle.server_worker.proofs.TakeSteps.{queues_taken, receives_taken}
@@ -8,12 +8,12 @@ use Rattle.server_worker.proofs.WorkSteps.{works_taken}
 use Rattle.server_worker.proofs.worker.Worker.turn.Goals as goal
 
 pub turn_after_stop-requires-clause-works : goal.turn_after_stop-requires-clause-works
-turn_after_stop-requires-clause-works g c = works_taken g.F.Factory.Future.Future g.F.Factory.Service.Service g.F.Factory.Service.Future.Future g.F.Factory.Service.Future.LinkHolder.may_stand (g.F.ServerServiceFactory.may_serve c.args.self.now.factory) (g.F.ServerServiceFactory.may_leave c.args.self.now.factory) (g.F.ServerServiceFactory.may_ready c.args.self.now.factory) (g.F.ServerServiceFactory.may_init c.args.self.now.factory) (g.F.ServerServiceFactory.may_make c.args.self.now.factory)
-    c.args.self.now.services _ c.args.self.now.hand _ _ (search rules) refl refl c.take-all.ensures.takes c.requires.works
+turn_after_stop-requires-clause-works g c = works_taken g.F.Factory.ServiceFactory g.F.Factory.Future.Future g.F.Factory.Service.Service g.F.Factory.Service.Future.Future g.F.Factory.Service.Future.LinkHolder.may_stand (g.F.ServerServiceFactory.may_serve c.args.self.now.factory) (g.F.ServerServiceFactory.may_leave c.args.self.now.factory) (g.F.ServerServiceFactory.may_ready c.args.self.now.factory) (g.F.ServerServiceFactory.may_init c.args.self.now.factory) (g.F.ServerServiceFactory.may_make c.args.self.now.factory)
+    c.args.self.now.services _ c.args.self.now.hand _ _ (search rules) refl refl refl c.take-all.ensures.takes c.requires.works
 
 pub turn_on-requires-clause-works : goal.turn_on-requires-clause-works
-turn_on-requires-clause-works g c = works_taken g.F.Factory.Future.Future g.F.Factory.Service.Service g.F.Factory.Service.Future.Future g.F.Factory.Service.Future.LinkHolder.may_stand (g.F.ServerServiceFactory.may_serve c.args.self.now.factory) (g.F.ServerServiceFactory.may_leave c.args.self.now.factory) (g.F.ServerServiceFactory.may_ready c.args.self.now.factory) (g.F.ServerServiceFactory.may_init c.args.self.now.factory) (g.F.ServerServiceFactory.may_make c.args.self.now.factory)
-    c.args.self.now.services _ c.args.self.now.hand _ _ (search rules) refl refl c.take-all.ensures.takes c.requires.works
+turn_on-requires-clause-works g c = works_taken g.F.Factory.ServiceFactory g.F.Factory.Future.Future g.F.Factory.Service.Service g.F.Factory.Service.Future.Future g.F.Factory.Service.Future.LinkHolder.may_stand (g.F.ServerServiceFactory.may_serve c.args.self.now.factory) (g.F.ServerServiceFactory.may_leave c.args.self.now.factory) (g.F.ServerServiceFactory.may_ready c.args.self.now.factory) (g.F.ServerServiceFactory.may_init c.args.self.now.factory) (g.F.ServerServiceFactory.may_make c.args.self.now.factory)
+    c.args.self.now.services _ c.args.self.now.hand _ _ (search rules) refl refl refl c.take-all.ensures.takes c.requires.works
 
 pub returns-then-self-clause-accounts : goal.returns-then-self-clause-accounts
 returns-then-self-clause-accounts g c = accounts_trans c.take-all.ensures.accounts c.turn_after_stop.ensures.accounts
@@ -28,7 +28,7 @@ pub returns-then-self-clause-ready : goal.returns-then-self-clause-ready
 returns-then-self-clause-ready g c = taken_ready g.L.Link.identity _ c.args.self.now.hand c.take-all.new.self c.turn_after_stop.new.self.hand c.take-all.ensures.accounts c.take-all.ensures.takes _ (turn_no_ready _ _ _ c.turn_after_stop.ensures.no_ready)
 
 pub returns-then-self-clause-polls : goal.returns-then-self-clause-polls
-returns-then-self-clause-polls g c unforced = taken_polls g.L.Link.identity _ c.args.self.now.hand c.take-all.new.self c.turn_after_stop.new.self.hand c.take-all.ensures.accounts c.take-all.ensures.takes (c.turn_after_stop.ensures.polls (sym c.turn_after_stop.ensures.forced ∙ unforced))
+returns-then-self-clause-polls g c unforced _ = taken_polls g.L.Link.identity _ c.args.self.now.hand c.take-all.new.self c.turn_after_stop.new.self.hand c.take-all.ensures.accounts c.take-all.ensures.takes (c.turn_after_stop.ensures.polls (sym c.turn_after_stop.ensures.forced ∙ unforced))
 
 pub returns-then-self-clause-unforced : goal.returns-then-self-clause-unforced
 returns-then-self-clause-unforced g c unforced h = taken_told g.L.Link.identity _ c.args.self.now.hand c.take-all.new.self c.turn_after_stop.new.self.hand c.take-all.ensures.accounts c.take-all.ensures.takes true h (c.turn_after_stop.ensures.unforced (sym c.turn_after_stop.ensures.forced ∙ unforced) h)
@@ -42,8 +42,8 @@ returns-then-self-clause-returns g c is = taken_returns g.L.Link.identity _ c.ar
 pub returns-then-self-clause-gives_up : goal.returns-then-self-clause-gives_up
 returns-then-self-clause-gives_up g c is = taken_gives_up g.L.Link.identity _ c.args.self.now.hand c.take-all.new.self c.turn_after_stop.new.self.hand c.take-all.ensures.accounts c.take-all.ensures.takes (c.turn_after_stop.ensures.gives_up (sym c.turn_after_stop.ensures.forced ∙ is))
 
-pub returns-then-self-clause-asks : goal.returns-then-self-clause-asks
-returns-then-self-clause-asks g c = asks_stopped _ _ _ _ _ _ c.turn_after_stop.ensures.core c.turn_after_stop.ensures.stopped
+pub returns-then-self-clause-checks : goal.returns-then-self-clause-checks
+returns-then-self-clause-checks g c _ = checks_stopped _ _ _ _ _ _ _ _ c.turn_after_stop.ensures.core c.turn_after_stop.ensures.stopped
 
 pub returns-then-self-clause-waits : goal.returns-then-self-clause-waits
 returns-then-self-clause-waits g c unstopped not_ready = absurd (true≢false (sym c.turn_after_stop.ensures.stopped ∙ unstopped))
@@ -61,7 +61,7 @@ pub returns-clause-ready : goal.returns-clause-ready
 returns-clause-ready g c = taken_ready g.L.Link.identity _ c.args.self.now.hand c.take-all.new.self c.turn_on.new.self.hand c.take-all.ensures.accounts c.take-all.ensures.takes _ c.turn_on.ensures.ready
 
 pub returns-clause-polls : goal.returns-clause-polls
-returns-clause-polls g c unforced = taken_polls g.L.Link.identity _ c.args.self.now.hand c.take-all.new.self c.turn_on.new.self.hand c.take-all.ensures.accounts c.take-all.ensures.takes c.turn_on.ensures.polls
+returns-clause-polls g c unforced whole = taken_polls g.L.Link.identity _ c.args.self.now.hand c.take-all.new.self c.turn_on.new.self.hand c.take-all.ensures.accounts c.take-all.ensures.takes (c.turn_on.ensures.polls whole)
 
 pub returns-clause-unforced : goal.returns-clause-unforced
 returns-clause-unforced g c unforced h = taken_told g.L.Link.identity _ c.args.self.now.hand c.take-all.new.self c.turn_on.new.self.hand c.take-all.ensures.accounts c.take-all.ensures.takes true h (c.turn_on.ensures.stops true h)
@@ -75,11 +75,17 @@ returns-clause-returns g c is = absurd (true≢false (sym is ∙ c.turn_on.ensur
 pub returns-clause-gives_up : goal.returns-clause-gives_up
 returns-clause-gives_up g c is = absurd (true≢false (sym (c.turn_on.new.self.hand.forces is) ∙ c.turn_on.ensures.stopped))
 
-pub returns-clause-asks : goal.returns-clause-asks
-returns-clause-asks g c = asks_asking _ _ _ _ _ _ c.turn_on.ensures.stopped c.turn_on.ensures.asks
+pub returns-clause-checks : goal.returns-clause-checks
+returns-clause-checks g c whole = checks_going _ _ _ _ _ _ _ _ c.turn_on.ensures.stopped (c.turn_on.ensures.checks whole)
 
 pub returns-clause-waits : goal.returns-clause-waits
 returns-clause-waits g c unstopped not_ready = queues_taken _ _ _ _ c.take-all.ensures.takes (c.turn_on.ensures.waits not_ready)
 
 pub returns-clause-unstarted : goal.returns-clause-unstarted
 returns-clause-unstarted g c token error is = let u = c.turn_on.ensures.unstarted token error is in (u.0, u.1, u.2, c.turn_on.ensures.stopped)
+
+pub returns-clause-unpolled : goal.returns-clause-unpolled
+returns-clause-unpolled g c fault = ap (λ v. v.items) (c.turn_on.ensures.unpolled fault) ∙ c.take-all.ensures.takes.live
+
+pub returns-clause-faulted : goal.returns-clause-faulted
+returns-clause-faulted g c token readiness error is = let f = c.turn_on.ensures.faulted token readiness error is in (f.0, f.1, f.2, f.3, f.4, c.turn_on.ensures.stopped)

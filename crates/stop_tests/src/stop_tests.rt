@@ -1,9 +1,7 @@
 //! Runs that are told to pause, to go on and to stop.
-use crate::answer::Answer;
-use crate::answer::Answer::{Give, Hang, NotYet, Wait};
-use crate::gated::Told;
-use crate::plan::{PLAIN, Plan};
-use crate::serving::come_to_when_told;
+use crate::telling::come_to_when_told;
+use serve_stage::Answer::{Give, Hang, NotYet, Wait};
+use serve_stage::{Answer, PLAIN, Plan, Told};
 use server_commands::CommandStep;
 use server_core::Command;
 use std::test::Fail;

@@ -5,7 +5,7 @@ ghost use Rattle.futures.specs.Poll.{OnPending};
 ghost use Rattle.futures.specs.Task.{IsArmed, Keeps};
 ghost use Rattle.futures.specs.declared.task.Poll.TheVariants.{Ready as PollReady};
 ghost use Rattle.service_core.specs.declared.ended.How.TheVariants.{Served};
-ghost use Rattle.serve_tests.specs.Ending.{EndsOf, GivesBack};
+ghost use Rattle.serve_stage.specs.Ending.{EndsOf, GivesBack};
 
 use futures::Future;
 use futures::task::{Context, Poll};
@@ -19,7 +19,7 @@ use std::sync::atomic::Ordering::SeqCst;
 
 /// Ends a connection once it was polled so often, what it waits for has come, and its link is read to its end.
 #[derive(Drop)]
-pub(crate) struct AfterPolls<L> {
+pub struct AfterPolls<L> {
     link: Option<L>,
     // So many polls come before the first read.
     before: u32,
@@ -103,17 +103,17 @@ impl<L: Link> LinkHolder<L> for AfterPolls<L> {
 
 /// Ends each connection after so many polls, by its token in another way. The service of one token may be refused.
 #[derive(Drop)]
-pub(crate) struct EndAfter {
+pub struct EndAfter {
     /// So many polls come before the first read.
-    pub(crate) before: u32,
+    pub before: u32,
     /// The token whose service is refused. The error is that token.
-    pub(crate) refused: Option<usize>,
+    pub refused: Option<usize>,
     /// The token of its connections.
-    pub(crate) token: usize,
+    pub token: usize,
     /// How many connections it began to serve, and its copies did.
-    pub(crate) begun: Arc<AtomicU64>,
+    pub begun: Arc<AtomicU64>,
     /// No link is read before this has come.
-    pub(crate) until: Option<GracefulShutdownSignal>,
+    pub until: Option<GracefulShutdownSignal>,
 }
 
 impl EndAfter {

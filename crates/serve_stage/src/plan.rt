@@ -8,29 +8,29 @@ use std::sync::atomic::AtomicU64;
 
 /// How a server is set, and what is refused.
 #[derive(Clone, Copy)]
-pub(crate) struct Plan {
+pub struct Plan {
     /// How many workers there are.
-    pub(crate) workers: usize,
+    pub workers: usize,
     /// How many connections a worker may have.
-    pub(crate) limit: u64,
+    pub limit: u64,
     /// How many places each ring has.
-    pub(crate) ring: usize,
+    pub ring: usize,
     /// How often a listener may fail.
-    pub(crate) retry_limit: u64,
+    pub retry_limit: u64,
     /// How many polls of a connection come before its last one.
-    pub(crate) before: u32,
+    pub before: u32,
     /// The token whose service is refused.
-    pub(crate) refused: Option<usize>,
+    pub refused: Option<usize>,
     /// The worker that is not started.
-    pub(crate) unstarted: Option<usize>,
+    pub unstarted: Option<usize>,
     /// How many seconds a worker has after a graceful stop.
-    pub(crate) timeout: u64,
+    pub timeout: u64,
     /// How many milliseconds go by from turn to turn.
-    pub(crate) step: u64,
+    pub step: u64,
 }
 
 /// Two workers that have room for all connections. Nothing is refused.
-pub(crate) const PLAIN: Plan = Plan {
+pub const PLAIN: Plan = Plan {
     workers: 2,
     limit: 100,
     ring: 128,
@@ -44,7 +44,7 @@ pub(crate) const PLAIN: Plan = Plan {
 
 impl Plan {
     /// The same with one, two and eight workers.
-    pub(crate) fn by_workers(self) -> [Plan; 3] {
+    pub fn by_workers(self) -> [Plan; 3] {
         [
             Plan { workers: 1, ..self },
             Plan { workers: 2, ..self },
@@ -53,7 +53,7 @@ impl Plan {
     }
 
     /// The factory of its services, which counts there what they begin to serve, and of which none reads before that has come.
-    pub(crate) fn factory(
+    pub fn factory(
         &self,
         begun: Arc<AtomicU64>,
         until: Option<GracefulShutdownSignal>,
@@ -68,7 +68,7 @@ impl Plan {
     }
 
     /// A builder that is set so. The plan has to fit.
-    pub(crate) fn builder(&self, alloc: Global) -> Result<ServerBuilder, AllocError> {
+    pub fn builder(&self, alloc: Global) -> Result<ServerBuilder, AllocError> {
         let has_workers = 1 <= self.workers && self.workers <= 512;
         let has_room = 1 <= self.limit && self.limit < u64::MAX;
         let has_places = 1 <= self.ring && self.ring <= 4_096;
@@ -86,7 +86,7 @@ impl Plan {
     }
 
     /// A server that is set so, whose services count there what they begin to serve.
-    pub(crate) fn server(
+    pub fn server(
         &self,
         alloc: Global,
         begun: Arc<AtomicU64>,
@@ -95,7 +95,7 @@ impl Plan {
     }
 
     /// What starts its workers, but one.
-    pub(crate) fn spawner(&self, alloc: Global) -> Result<ScriptSpawner, AllocError> {
+    pub fn spawner(&self, alloc: Global) -> Result<ScriptSpawner, AllocError> {
         let mut refused = Vec::new(alloc);
         if let Some(worker) = self.unstarted {
             refused.push(worker as u64)?;

@@ -3,12 +3,13 @@ use futures::task::{Context, Poll};
 
 /// A signal that comes at the poll behind so many at which it is not there.
 #[derive(Drop)]
-pub(crate) struct Countdown {
+pub struct Countdown {
     waits: u32,
 }
 
 impl Countdown {
-    pub(crate) fn new(waits: u32) -> Countdown {
+    /// It isn't there at so many polls.
+    pub fn new(waits: u32) -> Countdown {
         Countdown { waits }
     }
 }

@@ -8,7 +8,7 @@ use std::sync::atomic::Ordering::SeqCst;
 /// A signal that comes once so many are counted. Where that takes more than so many polls, as where a service found no memory, the
 /// count is set to the greatest number, and it comes too.
 #[derive(Drop)]
-pub(crate) struct Begun {
+pub struct Begun {
     count: Arc<AtomicU64>,
     after: u64,
     patience: u32,
@@ -16,7 +16,7 @@ pub(crate) struct Begun {
 
 impl Begun {
     /// The signal of this count.
-    pub(crate) fn new(count: Arc<AtomicU64>, after: u64) -> Begun {
+    pub fn new(count: Arc<AtomicU64>, after: u64) -> Begun {
         Begun {
             count,
             after,

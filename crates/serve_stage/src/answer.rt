@@ -1,11 +1,11 @@
-//! The listeners of the tests.
+//! The listeners of a run.
 use crate::links::{that_ends, that_hangs};
 use server_run::{ListenerStep, MemoryListener};
 use std::alloc::{AllocError, Global};
 
 /// What a listener answers.
 #[derive(Clone, Copy)]
-pub(crate) enum Answer {
+pub enum Answer {
     /// So many connections, one after the other.
     Give(u64),
     /// So many connections whose peers never send anything.
@@ -64,10 +64,7 @@ fn steps_of(
 
 /// A listener that does so, at most a thousand steps.
 #[tactic(auto, using(crate::proofs::ListenerSteps::few_links))]
-pub(crate) fn listener_of(
-    alloc: Global,
-    steps: Vec<ListenerStep>,
-) -> Result<MemoryListener, AllocError> {
+pub fn listener_of(alloc: Global, steps: Vec<ListenerStep>) -> Result<MemoryListener, AllocError> {
     if steps.len() > 1_000 {
         return Err(AllocError);
     }

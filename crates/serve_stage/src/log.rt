@@ -6,14 +6,14 @@ use std::alloc::{AllocError, Global};
 
 /// What became of a run, in words.
 #[derive(Drop)]
-pub(crate) struct Log {
+pub struct Log {
     text: Octets,
     lacks_memory: bool,
 }
 
 impl Log {
     /// An empty one.
-    pub(crate) fn new(alloc: Global) -> Log {
+    pub fn new(alloc: Global) -> Log {
         Log {
             text: Octets::new(alloc),
             lacks_memory: false,
@@ -21,7 +21,7 @@ impl Log {
     }
 
     /// There was no memory.
-    pub(crate) fn lack_memory(&mut self) {
+    pub fn lack_memory(&mut self) {
         self.lacks_memory = true;
     }
 
@@ -32,7 +32,7 @@ impl Log {
     }
 
     /// A word.
-    pub(crate) fn word(&mut self, word: &str) {
+    pub fn word(&mut self, word: &str) {
         self.bytes(word.as_bytes());
     }
 
@@ -43,13 +43,13 @@ impl Log {
     }
 
     /// A word before a number.
-    pub(crate) fn before(&mut self, word: &str, number: u64) {
+    pub fn before(&mut self, word: &str, number: u64) {
         self.word(word);
         self.number(number);
     }
 
     /// What became of a connection.
-    pub(crate) fn outcome(&mut self, outcome: Outcome) {
+    pub fn outcome(&mut self, outcome: Outcome) {
         match outcome {
             Outcome::Served => self.word(" served"),
             Outcome::ReadFault => self.word(" unread"),
@@ -62,7 +62,7 @@ impl Log {
     }
 
     /// Whether this became of it.
-    pub(crate) fn is(&self, wanted: &[u8]) -> Result<bool, AllocError> {
+    pub fn is(&self, wanted: &[u8]) -> Result<bool, AllocError> {
         if self.lacks_memory {
             return Err(AllocError);
         }

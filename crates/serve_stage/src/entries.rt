@@ -2,7 +2,7 @@
 use server_run::{Entry, MemoryLink};
 
 /// The entry of the connection at that place of a listener.
-pub(crate) fn entry_at(
+pub fn entry_at(
     entries: &[Entry<MemoryLink>],
     token: usize,
     place: u64,
@@ -16,7 +16,7 @@ pub(crate) fn entry_at(
 }
 
 /// How many connections of a listener have an entry.
-pub(crate) fn count_of(entries: &[Entry<MemoryLink>], token: usize) -> u64 {
+pub fn count_of(entries: &[Entry<MemoryLink>], token: usize) -> u64 {
     let mut count: u64 = 0;
     for entry in entries {
         if entry.token == token {
@@ -37,7 +37,7 @@ fn is_numbered(entries: &[Entry<MemoryLink>], serial: u64) -> bool {
 }
 
 /// Whether the serial numbers are all that lie below their count.
-pub(crate) fn are_numbered(entries: &[Entry<MemoryLink>]) -> bool {
+pub fn are_numbered(entries: &[Entry<MemoryLink>]) -> bool {
     for serial in 0..entries.len() as u64 {
         if !is_numbered(entries, serial) {
             return false;

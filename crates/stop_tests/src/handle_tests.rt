@@ -1,14 +1,8 @@
 //! Runs that are told by a handle, or by a signal.
-use crate::answer::Answer;
-use crate::answer::Answer::{Give, NotYet, Wait};
-use crate::begun::Begun;
-use crate::countdown::Countdown;
-use crate::end_after::EndAfter;
-use crate::log::Log;
-use crate::plan::{PLAIN, Plan};
-use crate::serving::served_by;
 use futures::Future;
 use futures::test::MockTask;
+use serve_stage::Answer::{Give, NotYet, Wait};
+use serve_stage::{Answer, Begun, Countdown, EndAfter, Log, PLAIN, Plan, served_by};
 use server::{Server, ServerBuilder};
 use server_commands::{Commands, GracefulShutdownSignal, NoCommands, Reply, ServerHandle};
 use server_run::Host;

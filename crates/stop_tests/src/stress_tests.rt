@@ -1,10 +1,8 @@
 //! Runs that are stopped at one turn after the other.
-use crate::answer::listener_of;
-use crate::entries::{are_numbered, count_of, entry_at};
-use crate::gated::{Gated, Told};
-use crate::links::{that_ends, that_hangs, that_waits};
-use crate::plan::{PLAIN, Plan};
-use crate::stage::Stage;
+use serve_stage::{
+    Gated, PLAIN, Plan, Stage, Told, are_numbered, count_of, entry_at, listener_of, that_ends,
+    that_hangs, that_waits,
+};
 use server_commands::CommandStep;
 use server_core::Command;
 use server_run::{

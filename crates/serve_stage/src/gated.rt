@@ -29,16 +29,16 @@ pub(crate) fn comes_to(count: &AtomicU64, after: u64) -> bool {
 
 /// Steps of commands, once services began with so many connections.
 #[derive(Clone, Copy)]
-pub(crate) struct Told<'a> {
+pub struct Told<'a> {
     /// How many connections there are before.
-    pub(crate) after: u64,
+    pub after: u64,
     /// The steps.
-    pub(crate) steps: &'a [CommandStep],
+    pub steps: &'a [CommandStep],
 }
 
 /// A script of commands that begins once so many connections are counted.
 #[derive(Drop)]
-pub(crate) struct Gated {
+pub struct Gated {
     begun: Arc<AtomicU64>,
     after: u64,
     is_open: bool,
@@ -50,11 +50,7 @@ pub(crate) struct Gated {
 
 impl Gated {
     /// The steps, once so many are counted there.
-    pub(crate) fn new(
-        alloc: Global,
-        begun: Arc<AtomicU64>,
-        told: &Told<'_>,
-    ) -> Result<Gated, AllocError> {
+    pub fn new(alloc: Global, begun: Arc<AtomicU64>, told: &Told<'_>) -> Result<Gated, AllocError> {
         let mut steps = Vec::new(alloc);
         for step in told.steps {
             steps.push(*step)?;
@@ -70,7 +66,7 @@ impl Gated {
     }
 
     /// Whether it began before so many were counted.
-    pub(crate) fn gave_up(&self) -> bool {
+    pub fn gave_up(&self) -> bool {
         self.patience == 0
     }
 

@@ -11,17 +11,20 @@ use std::alloc::{AllocError, Global};
 
 /// What a run is given beside its server and its commands.
 #[derive(Drop)]
-pub(crate) struct Stage {
-    pub(crate) alloc: Global,
-    pub(crate) listeners: Vec<MemoryListener>,
+pub struct Stage {
+    /// Where its memory comes from.
+    pub alloc: Global,
+    /// What is listened to.
+    pub listeners: Vec<MemoryListener>,
     clock: StepClock,
     spawner: ScriptSpawner,
-    pub(crate) done: KeepAll<MemoryLink>,
+    /// What is handed on.
+    pub done: KeepAll<MemoryLink>,
 }
 
 impl Stage {
     /// These listeners, and what starts the workers of the plan.
-    pub(crate) fn new(
+    pub fn new(
         alloc: Global,
         plan: &Plan,
         listeners: Vec<MemoryListener>,
@@ -37,7 +40,7 @@ impl Stage {
     }
 
     /// Serves, told by these commands. The listeners have to be few.
-    pub(crate) fn run<Ho: Host + 'static, Co: Commands>(
+    pub fn run<Ho: Host + 'static, Co: Commands>(
         &mut self,
         rt: &Ho,
         server: Server<EndAfter>,
