@@ -148,7 +148,7 @@ where
 {
     let places = load.at_once() as usize + 1;
     let (to_worker, parcels) = RingBuffer::new(alloc, places)?;
-    let (notes, from_worker) = RingBuffer::new(alloc, places)?;
+    let (notes, from_worker) = RingBuffer::new(alloc, places + 1)?;
     match Worker::new(alloc, parcels, notes, factory, 1) {
         Ok(mut worker) => {
             let mut ends = Ends::new(to_worker, from_worker);

@@ -1,9 +1,10 @@
 -- What was put on the ring of a worker that was joined came back, and each connection came back as it may.
 use Rattle.std.proofs.Common.{◌≡◌, ◌≤◌, ◌<◌, ◌++◌, ◌∷◌, [], ℕ, zero, suc, ◌+◌, true, false, List, All, Contains, length, sum_by, refl, sym, ◌∙◌, ap, arith, subst, inl, inr}
-use Rattle.std.specs.Prelude.{◌⊎◌, slice_index_or}
+use Rattle.std.specs.Prelude.{◌⊎◌, Err, slice_index_or}
 use Rattle.std.proofs.lemmas.List.Sums.{sum_by-append, sum_by-cons}
 use Rattle.std.proofs.lemmas.List.Elements.{All-append, All-cons, All-head, All-nil, All-tail, All-weaker, Contains-append_left, Contains-append_right}
 use Rattle.rtrb.specs.Ring.{known_items, received, sent}
+use Rattle.futures.specs.declared.task.Poll.TheVariants.{Ready as PollReady}
 use Rattle.service_core.specs.Link.{Identity}
 use Rattle.service_core.specs.Meaning.{Readiness}
 use Rattle.service_core.specs.declared.ended.Ended.{Ended}
@@ -23,7 +24,7 @@ use Rattle.server_worker.specs.Sound.{IsTold}
 use Rattle.worker_job.specs.Jobs.{factory_of}
 use Rattle.worker_job.specs.Promise.{HandsOver, AreSignals}
 use Rattle.worker_job.specs.declared.departure.Departure.{Departure}
-use Rattle.worker_job.specs.declared.departure.Departure.TheVariants.{Left, Unstarted, Memory}
+use Rattle.worker_job.specs.declared.departure.Departure.TheVariants.{Left, Unstarted, Faulted as FaultedJob, Memory}
 use Rattle.worker_job.specs.declared.worker_job.WorkerJob.{WorkerJob}
 use Rattle.server.specs.Joining.{IsJoined}
 use Rattle.server.specs.Returning.{BringBack, IsFrom, ReturnsAll, many_put}
@@ -88,8 +89,8 @@ IsStill identity line = (many_put identity line ≡ 0) ⊎ Contains (received li
 
 module _ {L F E I : Type 0} (may_serve : F → ℕ → L → Ended L → Type 0) (may_leave : F → ℕ → L → L → Type 0) (may_ready : F → ℕ → Readiness E → Type 0)
     (may_init : F → ℕ → I → Type 0) (may_make : F → ℕ → Type 0) (identity : L → Identity) (factory : F) (listeners : ℕ)
-    (line : Line L (WorkerJob L F) (Handed L F (Departure I))) (runs : RunsFor may_serve may_leave may_ready may_init may_make factory listeners line)
-    (it : IsJoined {D = Departure I} identity (λ job out. HandsOver identity may_serve may_leave may_init may_make job out) (λ all. all) line) (still : IsStill identity line) where
+    (line : Line L (WorkerJob L F) (Handed L F (Departure E I))) (runs : RunsFor may_serve may_leave may_ready may_init may_make factory listeners line)
+    (it : IsJoined {D = Departure E I} identity (λ job out. HandsOver identity may_serve may_leave may_ready may_init may_make job out) (λ all. all) line) (still : IsStill identity line) where
   abbrev job : WorkerJob L F
   job = job_of line.running
 
@@ -123,9 +124,11 @@ module _ {L F E I : Type 0} (may_serve : F → ℕ → L → Ended L → Type 0)
       (subst (λ n. All (IsTold (may_serve (factory_of job)) (may_leave (factory_of job)) (may_make (factory_of job)) n (received it.hands.out.parcels)) it.hands.out.owed.items) runs.as_many it.hands.promised.true_owed))
 
   -- nothing that had not ended was handed over
-  none_left : (departure : Departure I) → it.hands.out.departure ≡ departure → Contains it.hands.promised.told Ready → length it.hands.out.rest.items ≡ 0
+  none_left : (departure : Departure E I) → it.hands.out.departure ≡ departure → Contains it.hands.promised.told Ready → length it.hands.out.rest.items ≡ 0
   none_left Left is has = (rw is at it.hands.promised.departs).1
   none_left (Unstarted token error) is has = absurd (no_unstarted it.hands.promised.told it.hands.out.owed.items has (rw is at it.hands.promised.signals))
+  none_left (FaultedJob token readiness error) is has =
+      let departs = rw is at it.hands.promised.departs in absurd (runs.never_errs token readiness (runs.means.readies token (PollReady (Err readiness)) departs.2))
   none_left Memory is has = (rw is at it.hands.promised.departs).1
 
   rest_none : it.joined.handed.rest.items ≡ []
@@ -176,34 +179,34 @@ module _ {L F E I : Type 0} (may_serve : F → ℕ → L → Ended L → Type 0)
 -- ---- all lines
 module _ {L F E I : Type 0} (may_serve : F → ℕ → L → Ended L → Type 0) (may_leave : F → ℕ → L → L → Type 0) (may_ready : F → ℕ → Readiness E → Type 0)
     (may_init : F → ℕ → I → Type 0) (may_make : F → ℕ → Type 0) (identity : L → Identity) (factory : F) (listeners : ℕ) where
-  abbrev Runs : Line L (WorkerJob L F) (Handed L F (Departure I)) → Type 0
+  abbrev Runs : Line L (WorkerJob L F) (Handed L F (Departure E I)) → Type 0
   Runs line = RunsFor may_serve may_leave may_ready may_init may_make factory listeners line
 
-  abbrev Brings : List (Line L (WorkerJob L F) (Handed L F (Departure I))) → List (Entry L) → Type 0
-  Brings lines entries = BringBack {D = Departure I} identity (λ job out. HandsOver identity may_serve may_leave may_init may_make job out) (λ all. all) lines entries
+  abbrev Brings : List (Line L (WorkerJob L F) (Handed L F (Departure E I))) → List (Entry L) → Type 0
+  Brings lines entries = BringBack {D = Departure E I} identity (λ job out. HandsOver identity may_serve may_leave may_ready may_init may_make job out) (λ all. all) lines entries
 
   -- what was put on all rings is what came back over the others, and what the joins brought back
-  pub weighs : (h : Card → ℕ) (lines : List (Line L (WorkerJob L F) (Handed L F (Departure I)))) (entries : List (Entry L)) → Brings lines entries → All Runs lines → All (IsStill identity) lines
-      → sum_by (λ (l : Line L (WorkerJob L F) (Handed L F (Departure I))). sum_by (of_parcel identity h) (sent l.parcels)) lines
-      ≡ sum_by (λ (l : Line L (WorkerJob L F) (Handed L F (Departure I))). sum_by (of_note identity h) (received l.notes)) lines + sum_by (of_entry identity h) entries
+  pub weighs : (h : Card → ℕ) (lines : List (Line L (WorkerJob L F) (Handed L F (Departure E I)))) (entries : List (Entry L)) → Brings lines entries → All Runs lines → All (IsStill identity) lines
+      → sum_by (λ (l : Line L (WorkerJob L F) (Handed L F (Departure E I))). sum_by (of_parcel identity h) (sent l.parcels)) lines
+      ≡ sum_by (λ (l : Line L (WorkerJob L F) (Handed L F (Departure E I))). sum_by (of_note identity h) (received l.notes)) lines + sum_by (of_entry identity h) entries
   weighs h [] entries none runs still = let e = ap (sum_by (of_entry identity h)) none in omega (arith, e)
   weighs h (l ∷ ls) entries back runs still =
       let here = (returns_line may_serve may_leave may_ready may_init may_make identity factory listeners l (All-head Runs l ls runs) back.2 (All-head (IsStill identity) l ls still)).once h in
       let rest = weighs h ls back.0 back.1 (All-tail Runs l ls runs) (All-tail (IsStill identity) l ls still) in
-      let a = sum_by-cons (λ (l : Line L (WorkerJob L F) (Handed L F (Departure I))). sum_by (of_parcel identity h) (sent l.parcels)) l ls in
-      let b = sum_by-cons (λ (l : Line L (WorkerJob L F) (Handed L F (Departure I))). sum_by (of_note identity h) (received l.notes)) l ls in
+      let a = sum_by-cons (λ (l : Line L (WorkerJob L F) (Handed L F (Departure E I))). sum_by (of_parcel identity h) (sent l.parcels)) l ls in
+      let b = sum_by-cons (λ (l : Line L (WorkerJob L F) (Handed L F (Departure E I))). sum_by (of_note identity h) (received l.notes)) l ls in
       let c = ap (sum_by (of_entry identity h)) back.3 in
       let d = sum_by-append (of_entry identity h) back.0 (brought_back back.2.joined) in
       omega (arith, here, rest, a, b, c, d)
 
-  abbrev OfALine : List (Line L (WorkerJob L F) (Handed L F (Departure I))) → Entry L → Type 0
-  OfALine lines e = (l : Line L (WorkerJob L F) (Handed L F (Departure I))) × Contains lines l × IsFrom (may_serve factory) (may_leave factory) (sent l.parcels) e
+  abbrev OfALine : List (Line L (WorkerJob L F) (Handed L F (Departure E I))) → Entry L → Type 0
+  OfALine lines e = (l : Line L (WorkerJob L F) (Handed L F (Departure E I))) × Contains lines l × IsFrom (may_serve factory) (may_leave factory) (sent l.parcels) e
 
-  later : (l : Line L (WorkerJob L F) (Handed L F (Departure I))) (ls : List (Line L (WorkerJob L F) (Handed L F (Departure I)))) (e : Entry L) → OfALine ls e → OfALine (l ∷ ls) e
+  later : (l : Line L (WorkerJob L F) (Handed L F (Departure E I))) (ls : List (Line L (WorkerJob L F) (Handed L F (Departure E I)))) (e : Entry L) → OfALine ls e → OfALine (l ∷ ls) e
   later l ls e of = (of.0, (suc of.1.0, omega (arith, of.1.1), of.1.2), of.2)
 
   -- each that a join brought back came over the line
-  pub from_lines : (lines : List (Line L (WorkerJob L F) (Handed L F (Departure I)))) (entries : List (Entry L)) → Brings lines entries → All Runs lines → All (IsStill identity) lines → All (OfALine lines) entries
+  pub from_lines : (lines : List (Line L (WorkerJob L F) (Handed L F (Departure E I)))) (entries : List (Entry L)) → Brings lines entries → All Runs lines → All (IsStill identity) lines → All (OfALine lines) entries
   from_lines [] entries none runs still = subst (All (OfALine [])) (sym none) (All-nil (OfALine []))
   from_lines (l ∷ ls) entries back runs still =
       let here = (returns_line may_serve may_leave may_ready may_init may_make identity factory listeners l (All-head Runs l ls runs) back.2 (All-head (IsStill identity) l ls still)).brought in
@@ -214,10 +217,10 @@ module _ {L F E I : Type 0} (may_serve : F → ℕ → L → Ended L → Type 0)
       (All-weaker (IsFrom (may_serve factory) (may_leave factory) (sent l.parcels)) (OfALine (l ∷ ls)) (λ e of. (l, (zero, omega arith, refl), of)) (brought_back back.2.joined) here))
 
   -- what the notes of a line told is true
-  abbrev TellsTrue : Line L (WorkerJob L F) (Handed L F (Departure I)) → Type 0
+  abbrev TellsTrue : Line L (WorkerJob L F) (Handed L F (Departure E I)) → Type 0
   TellsTrue l = All (IsTold (may_serve factory) (may_leave factory) (may_make factory) listeners (sent l.parcels)) (received l.notes)
 
-  pub told_lines : (lines : List (Line L (WorkerJob L F) (Handed L F (Departure I)))) (entries : List (Entry L)) → Brings lines entries → All Runs lines → All (IsStill identity) lines
+  pub told_lines : (lines : List (Line L (WorkerJob L F) (Handed L F (Departure E I)))) (entries : List (Entry L)) → Brings lines entries → All Runs lines → All (IsStill identity) lines
       → All (λ l. All (IsTold (may_serve factory) (may_leave factory) (may_make factory) listeners (sent l.parcels)) (received l.notes)) lines
   told_lines [] entries none runs still = All-nil TellsTrue
   told_lines (l ∷ ls) entries back runs still = All-cons TellsTrue l ls

@@ -56,6 +56,7 @@ use Rattle.server_acceptor.specs.declared.acceptor.Acceptor.{Acceptor}
 use Rattle.worker_job.specs.Jobs.{factory_of, listeners_of}
 use Rattle.worker_job.specs.Promise.{HandsOver}
 use Rattle.worker_job.specs.declared.departure.Departure.{Departure}
+use Rattle.worker_job.specs.declared.departure.Departure.TheVariants.{Unstarted as UnstartedJob, Faulted as FaultedJob}
 use Rattle.worker_job.specs.declared.worker_job.WorkerJob.{WorkerJob}
 use Rattle.server.specs.Accepting.{Accepts}
 use Rattle.server.specs.Failing.{IsErrorOf}
@@ -153,7 +154,7 @@ none_forced {L = L} (p ∷ ps) unsent zero is =
 none_forced (p ∷ ps) unsent (suc w) is = none_forced ps (All-tail (λ p. sent p ≡ []) p ps unsent) w is
 
 pub untold_start : {L F E I : Type 0} (may_serve : F → ℕ → L → Ended L → Type 0) (may_leave : F → ℕ → L → L → Type 0) (may_ready : F → ℕ → Readiness E → Type 0) (may_init : F → ℕ → I → Type 0) (may_make : F → ℕ → Type 0)
-    (factory : F) (listeners limit retry_limit timeout : ℕ) (a : Acceptor L) (rs : List (Running (WorkerJob L F) (Handed L F (Departure I))))
+    (factory : F) (listeners limit retry_limit timeout : ℕ) (a : Acceptor L) (rs : List (Running (WorkerJob L F) (Handed L F (Departure E I))))
     → IsNew a (parcels_of a) (notes_of a) listeners limit retry_limit timeout → (length (parcels_of a) ≡ length rs) × (length (notes_of a) ≡ length rs)
     → All (IsStarted may_serve may_leave may_ready may_init may_make factory listeners) (lines_of (parcels_of a) (notes_of a) rs) → IsUntold a
 untold_start may_serve may_leave may_ready may_init may_make factory listeners limit retry_limit timeout a rs fresh as_many started = record {
@@ -206,7 +207,7 @@ first_line P Q (p ∷ ps) (n ∷ ns) (r ∷ rs) some same too all has =
 module _ {Li L D F E I : Type 0} (given : Li → ℕ) (left : Li → Option (List L)) (rest : Li → Option (List Mark)) (identity : L → Identity) (ended : Li → Bool) (faults : Li → ℕ)
     (taken : D → Option (List (Entry L))) (count served : D → ℕ)
     (may_serve : F → ℕ → L → Ended L → Type 0) (may_leave : F → ℕ → L → L → Type 0) (may_ready : F → ℕ → Readiness E → Type 0) (may_init : F → ℕ → I → Type 0) (may_make : F → ℕ → Type 0)
-    (factory : F) (listeners limit retry_limit timeout : ℕ) (before after : List Li) (a b : Acceptor L) (rs : List (Running (WorkerJob L F) (Handed L F (Departure I)))) (old new : D)
+    (factory : F) (listeners limit retry_limit timeout : ℕ) (before after : List Li) (a b : Acceptor L) (rs : List (Running (WorkerJob L F) (Handed L F (Departure E I)))) (old new : D)
     (fresh : IsNew a (parcels_of a) (notes_of a) listeners limit retry_limit timeout)
     (as_many : (length (parcels_of a) ≡ length rs) × (length (notes_of a) ≡ length rs))
     (started : All (IsStarted may_serve may_leave may_ready may_init may_make factory listeners) (lines_of (parcels_of a) (notes_of a) rs))
@@ -234,21 +235,26 @@ module _ {Li L D F E I : Type 0} (given : Li → ℕ) (left : Li → Option (Lis
     runs_after : All (RunsFor may_serve may_leave may_ready may_init may_make factory listeners) (lines_of qs ms rs)
     runs_after = runs_kept may_serve may_leave may_ready may_init may_make factory listeners (parcels_of a) qs (notes_of a) ms rs (ins ∙ accepts.does.rings.parcels) (outs ∙ accepts.does.rings.notes) (λ i d inside. (started i d inside).runs)
 
-    pub joins_after : All (IsLine identity {D = Departure I} (λ job out. HandsOver identity may_serve may_leave may_init may_make job out) (λ all. all)) (lines_of qs ms rs)
+    pub joins_after : All (IsLine identity {D = Departure E I} (λ job out. HandsOver identity may_serve may_leave may_ready may_init may_make job out) (λ all. all)) (lines_of qs ms rs)
     joins_after = lines_join may_serve may_leave may_ready may_init may_make factory listeners identity (lines_of qs ms rs) runs_after
 
     -- a service that could not be made
-    unstarted_is : (worker token : ℕ) (error : I) → IsUnstarted {F = F} (λ job out. HandsOver identity may_serve may_leave may_init may_make job out) (λ all. all) (lines_of qs ms rs) worker token error
+    unstarted_is : (worker token : ℕ) (error : I) → IsUnstarted {F = F} (λ job out. HandsOver identity may_serve may_leave may_ready may_init may_make job out) (λ all. all) (lines_of qs ms rs) worker token error
         → (worker < length rs) × (token < listeners) × may_init factory token error
     unstarted_is worker token error u =
         let inside = slice_get_within (lines_of qs ms rs) worker u.line u.at in
         let runs : RunsFor may_serve may_leave may_ready may_init may_make factory listeners u.line =
         subst (RunsFor may_serve may_leave may_ready may_init may_make factory listeners) (get_or_from_slice_get (lines_of qs ms rs) worker u.line u.line u.at) (runs_after worker u.line inside) in
-        let departs : (token < listeners_of (job_of u.line.running)) × may_init (factory_of (job_of u.line.running)) token error = rw u.departed at u.promised.departs in
+        let departs = departs_by u.departed in
         (omega (arith, inside, lines_length qs ms rs many_after.0 many_after.1), subst (λ n. token < n) runs.as_many departs.0, runs.means.inits token error departs.1)
+      where
+        departs_by : (u.out.departure ≡ UnstartedJob token error) ⊎ ((readiness : E) × (u.out.departure ≡ FaultedJob token readiness error))
+            → (token < listeners_of (job_of u.line.running)) × may_init (factory_of (job_of u.line.running)) token error
+        departs_by (inl is) = let departs = rw is at u.promised.departs in (departs.1, departs.2)
+        departs_by (inr fault) = let departs = rw fault.1 at u.promised.departs in (departs.1, departs.3)
 
     pub startup_is : (workers : ℕ) → workers ≡ length rs → (unstarted : Option (Unstarted I)) (error : ServeError I)
-        → IfSome unstarted (λ u. IsUnstarted {F = F} (λ job out. HandsOver identity may_serve may_leave may_init may_make job out) (λ all. all) (lines_of qs ms rs) u.worker u.token u.error)
+        → IfSome unstarted (λ u. IsUnstarted {F = F} (λ job out. HandsOver identity may_serve may_leave may_ready may_init may_make job out) (λ all. all) (lines_of qs ms rs) u.worker u.token u.error)
         → IsErrorOf unstarted error → IsStartup workers listeners (may_init factory) error
     startup_is workers many None error knows is = subst (IsStartup workers listeners (may_init factory)) (sym is) tt
     startup_is workers many (Some u) error knows is =
@@ -284,13 +290,13 @@ module _ {Li L D F E I : Type 0} (given : Li → ℕ) (left : Li → Option (Lis
   -- the workers are joined, and what comes back only then is handed on
   module _ (spare : D → ℕ) (qs : List (Producer (Parcel L) Global AnyItems)) (ms : List (Consumer (Note L) Global AnyItems)) (parcels : qs ≡ parcels_of b) (notes : ms ≡ notes_of b)
       (then_new : D) (end : End) (finishes : Finishes b end)
-      (returns : ReturnsBy {D = Departure I} identity (λ job out. HandsOver identity may_serve may_leave may_init may_make job out) (λ all. all) taken count served spare (lines_of qs ms rs) new then_new) where
-    abbrev lines : List (Line L (WorkerJob L F) (Handed L F (Departure I)))
+      (returns : ReturnsBy {D = Departure E I} identity (λ job out. HandsOver identity may_serve may_leave may_ready may_init may_make job out) (λ all. all) taken count served spare (lines_of qs ms rs) new then_new) where
+    abbrev lines : List (Line L (WorkerJob L F) (Handed L F (Departure E I)))
     lines = lines_of (parcels_of b) (notes_of b) rs
 
-    brought : BringBack {D = Departure I} identity (λ job out. HandsOver identity may_serve may_leave may_init may_make job out) (λ all. all) lines returns.entries
-    brought = subst (λ ps. BringBack {D = Departure I} identity (λ job out. HandsOver identity may_serve may_leave may_init may_make job out) (λ all. all) (lines_of ps (notes_of b) rs) returns.entries) parcels
-        (subst (λ ns. BringBack {D = Departure I} identity (λ job out. HandsOver identity may_serve may_leave may_init may_make job out) (λ all. all) (lines_of qs ns rs) returns.entries) notes returns.brought)
+    brought : BringBack {D = Departure E I} identity (λ job out. HandsOver identity may_serve may_leave may_ready may_init may_make job out) (λ all. all) lines returns.entries
+    brought = subst (λ ps. BringBack {D = Departure E I} identity (λ job out. HandsOver identity may_serve may_leave may_ready may_init may_make job out) (λ all. all) (lines_of ps (notes_of b) rs) returns.entries) parcels
+        (subst (λ ns. BringBack {D = Departure E I} identity (λ job out. HandsOver identity may_serve may_leave may_ready may_init may_make job out) (λ all. all) (lines_of qs ns rs) returns.entries) notes returns.brought)
 
     runs : All (RunsFor may_serve may_leave may_ready may_init may_make factory listeners) lines
     runs = runs_after (parcels_of b) (notes_of b) refl refl
@@ -305,12 +311,12 @@ module _ {Li L D F E I : Type 0} (given : Li → ℕ) (left : Li → Option (Lis
     told = told_lines may_serve may_leave may_ready may_init may_make identity factory listeners lines returns.entries brought runs still_after
 
     -- what was put on the rings is what came back, and what the joins brought
-    weighs_by : (h : Card → ℕ) → put identity h (map (λ (l : Line L (WorkerJob L F) (Handed L F (Departure I))). l.parcels) lines)
-        ≡ came_back identity h (map (λ (l : Line L (WorkerJob L F) (Handed L F (Departure I))). l.notes) lines) + sum_by (of_entry identity h) returns.entries
+    weighs_by : (h : Card → ℕ) → put identity h (map (λ (l : Line L (WorkerJob L F) (Handed L F (Departure E I))). l.parcels) lines)
+        ≡ came_back identity h (map (λ (l : Line L (WorkerJob L F) (Handed L F (Departure E I))). l.notes) lines) + sum_by (of_entry identity h) returns.entries
     weighs_by h =
         let w = weighs may_serve may_leave may_ready may_init may_make identity factory listeners h lines returns.entries brought runs still_after in
-        let p = sum_map (λ p. sum_by (of_parcel identity h) (sent p)) (λ (l : Line L (WorkerJob L F) (Handed L F (Departure I))). l.parcels) lines in
-        let n = sum_map (λ c. sum_by (of_note identity h) (received c)) (λ (l : Line L (WorkerJob L F) (Handed L F (Departure I))). l.notes) lines in
+        let p = sum_map (λ p. sum_by (of_parcel identity h) (sent p)) (λ (l : Line L (WorkerJob L F) (Handed L F (Departure E I))). l.parcels) lines in
+        let n = sum_map (λ c. sum_by (of_note identity h) (received c)) (λ (l : Line L (WorkerJob L F) (Handed L F (Departure E I))). l.notes) lines in
         omega (arith, w, p, n)
 
     -- as many as were out
@@ -325,7 +331,7 @@ module _ {Li L D F E I : Type 0} (given : Li → ℕ) (left : Li → Option (Lis
 
     module _ (same_served : (f : F) (token : ℕ) (link : L) (ended : Ended L) → may_serve f token link ended → identity ended.link ≡ identity link)
         (same_left : (f : F) (token : ℕ) (link back : L) → may_leave f token link back → identity back ≡ identity link) where
-      from_all : All (λ e. ((l : Line L (WorkerJob L F) (Handed L F (Departure I))) × Contains lines l × IsFrom (may_serve factory) (may_leave factory) (sent l.parcels) e) ⊎ IsLetGo left before e) all
+      from_all : All (λ e. ((l : Line L (WorkerJob L F) (Handed L F (Departure E I))) × Contains lines l × IsFrom (may_serve factory) (may_leave factory) (sent l.parcels) e) ⊎ IsLetGo left before e) all
       from_all = all_from identity (may_serve factory) (may_leave factory) (may_make factory) listeners given left before after b accepts.does.passes.more returns.entries lines
           (same_served factory) (same_left factory) carried (finished b end finishes) as_parcels as_notes weighs_by told
           (from_lines may_serve may_leave may_ready may_init may_make identity factory listeners lines returns.entries brought runs still_after)
@@ -349,7 +355,7 @@ module _ {Li L D F E I : Type 0} (given : Li → ℕ) (left : Li → Option (Lis
         forced = λ i d inside. by_place _ (from_all i d inside);
       }
         where
-          by_place : (e : Entry L) → (((l : Line L (WorkerJob L F) (Handed L F (Departure I))) × Contains lines l × IsFrom (may_serve factory) (may_leave factory) (sent l.parcels) e) ⊎ IsLetGo left before e)
+          by_place : (e : Entry L) → (((l : Line L (WorkerJob L F) (Handed L F (Departure E I))) × Contains lines l × IsFrom (may_serve factory) (may_leave factory) (sent l.parcels) e) ⊎ IsLetGo left before e)
               → IsForcedInTime end (start + 1000 * timeout ≤ now) e
           by_place e (inl of) forced = forced_on_line b timeout start now in_time end finishes (notes_of b) rs of.0 of.1.0 of.1.1 of.1.2 (of.2.force forced)
           by_place e (inr gone) forced = absurd (let f : false ≡ true = sym (ap is_forced gone.0) ∙ forced in cc)

@@ -12,7 +12,7 @@ use Rattle.server.specs.Joining.{IsJoined, IsUnstarted}
 use Rattle.server.specs.declared.unstarted.Unstarted.{Unstarted}
 
 -- Of these lines the ones behind those that are left were joined, and what was found of them is known.
-pub record JoinedFrom {L F I J O : Type 0} (identity : L → Identity) (promise : J → O → Type 0) (handed : O → Handed L F (Departure I)) (lines left : List (Line L J O)) (found : Option (Unstarted I)) : Type 0 where
+pub record JoinedFrom {L F E I J O : Type 0} (identity : L → Identity) (promise : J → O → Type 0) (handed : O → Handed L F (Departure E I)) (lines left : List (Line L J O)) (found : Option (Unstarted I)) : Type 0 where
   pub last : List (Line L J O)
   pub whole : lines ≡ left ++ last
   pub joinable : All (IsLine identity promise handed) left
@@ -23,7 +23,7 @@ get_behind : {X : Type 0} (xs ys : List X) (x : X) → slice_get (xs ++ x ∷ ys
 get_behind [] ys x = refl
 get_behind (y ∷ xs) ys x = get_behind xs ys x
 
-module _ {L F I J O : Type 0} (identity : L → Identity) (promise : J → O → Type 0) (handed : O → Handed L F (Departure I)) where
+module _ {L F E I J O : Type 0} (identity : L → Identity) (promise : J → O → Type 0) (handed : O → Handed L F (Departure E I)) where
   pub joined_none : (lines : List (Line L J O)) → All (IsLine identity promise handed) lines → JoinedFrom identity promise handed lines lines None
   joined_none lines all = record { last = []; whole = sym (append-nil lines); joinable = all; joined = All-nil (IsJoined identity promise handed); unstarted = tt }
 

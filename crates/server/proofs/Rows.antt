@@ -99,6 +99,7 @@ module _ {F L E I : Type 0} (may_serve : F → ℕ → L → Ended L → Type 0)
       from_it = (ap (λ x. x.0) outs ∙ runs.from_it.0, ap (λ x. x.1.0) outs ∙ runs.from_it.1, ap (λ x. x.1.1.0) outs ∙ runs.from_it.2, ap (λ x. x.1.1.1) outs ∙ runs.from_it.3);
       unreceived = runs.unreceived;
       unsent = runs.unsent;
+      never_errs = runs.never_errs;
       means = runs.means;
       as_many = runs.as_many;
     }
@@ -119,8 +120,8 @@ module _ {F L E I : Type 0} (may_serve : F → ℕ → L → Ended L → Type 0)
         (runs_kept ps qs ns ms rs j l (All-tail Runs (line_of p n r) (lines_of ps ns rs) runs))
 
   -- a worker's job that runs for them can be joined
-  pub lines_join : (identity : L → Identity) (lines : List (Line L (WorkerJob L F) (Handed L F (Departure I)))) → All (RunsFor may_serve may_leave may_ready may_init may_make factory listeners) lines
-      → All (IsLine identity (λ job out. HandsOver identity may_serve may_leave may_init may_make job out) (λ all. all)) lines
+  pub lines_join : (identity : L → Identity) (lines : List (Line L (WorkerJob L F) (Handed L F (Departure E I)))) → All (RunsFor may_serve may_leave may_ready may_init may_make factory listeners) lines
+      → All (IsLine identity (λ job out. HandsOver identity may_serve may_leave may_ready may_init may_make job out) (λ all. all)) lines
   lines_join identity lines runs i d inside =
       let run = runs i d inside in
       record {

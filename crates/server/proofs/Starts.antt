@@ -3,6 +3,7 @@ use Rattle.std.proofs.Common.{◌≡◌, ◌≢◌, Result, Err, Some, ◌+◌, 
 use Rattle.std.proofs.lemmas.List.{length-append, length-map}
 use Rattle.std.proofs.lemmas.List.Elements.{All-nil}
 use Rattle.std.specs.declared.alloc.Global.{Global}
+use Rattle.futures.specs.declared.task.Poll.TheVariants.{Ready}
 use Rattle.rtrb.specs.Ring.{IsPair, received, sent}
 use Rattle.rtrb.specs.declared.AnyItems.{AnyItems}
 use Rattle.rtrb.specs.declared.consumer.Consumer.{Consumer}
@@ -34,14 +35,15 @@ module _ {F L E I : Type 0} (may_serve : F → ℕ → L → Ended L → Type 0)
   pub is_started : {O : Type 0} (factory copy : F) (listeners : ℕ) (line : Line L (WorkerJob L F) O) (job : WorkerJob L F) (taken : Consumer (Parcel L) Global AnyItems) (noted : Producer (Note L) Global AnyItems)
       → job_of line.running ≡ job → parcels_of job ≡ taken → notes_of job ≡ noted → factory_of job ≡ copy → listeners_of job ≡ listeners
       → IsPair line.parcels taken → sent line.parcels ≡ [] → received taken ≡ [] → IsPair noted line.notes → sent noted ≡ [] → received line.notes ≡ []
-      → HasMeaningOf may_serve may_leave may_ready may_init may_make factory copy
+      → ((token : ℕ) (e : E) → may_ready factory token (Ready (Err e)) → ⊥) → HasMeaningOf may_serve may_leave may_ready may_init may_make factory copy
       → IsStarted may_serve may_leave may_ready may_init may_make factory listeners line
-  is_started factory copy listeners line job taken noted is parcels notes made many to_it sent_none its_none from_it its_unsent received_none means = record {
+  is_started factory copy listeners line job taken noted is parcels notes made many to_it sent_none its_none from_it its_unsent received_none never_errs means = record {
     runs = record {
       to_it = subst (λ c. IsPair line.parcels c) (sym inward) to_it;
       from_it = subst (λ p. IsPair p line.notes) (sym outward) from_it;
       unreceived = ap (λ c. received c) inward ∙ its_none;
       unsent = ap (λ p. sent p) outward ∙ its_unsent;
+      never_errs = never_errs;
       means = subst (HasMeaningOf may_serve may_leave may_ready may_init may_make factory) (sym (ap factory_of is ∙ made)) means;
       as_many = ap listeners_of is ∙ many;
     };

@@ -1,5 +1,5 @@
 -- Workers that were joined.
-use Rattle.std.specs.Prelude.{◌≡◌, ◌++◌, ℕ, Some, slice_get}
+use Rattle.std.specs.Prelude.{◌≡◌, ◌⊎◌, ◌++◌, ℕ, Some, slice_get}
 use Rattle.rtrb.specs.Ring.{known_items, received, sent}
 use Rattle.service_core.specs.Link.{Identity}
 use Rattle.std.specs.Prelude.{List}
@@ -9,7 +9,7 @@ use Rattle.server_jobs.specs.declared.handed.Handed.{Handed}
 use Rattle.server_jobs.specs.declared.line.Joined.{Joined}
 use Rattle.server_jobs.specs.declared.line.Line.{Line}
 use Rattle.worker_job.specs.declared.departure.Departure.{Departure}
-use Rattle.worker_job.specs.declared.departure.Departure.TheVariants.{Unstarted}
+use Rattle.worker_job.specs.declared.departure.Departure.TheVariants.{Unstarted, Faulted}
 
 -- A line was joined: its job handed over what it promised, and what went over its rings is known.
 pub record IsJoined {L F D J O : Type 0} (identity : L → Identity) (promise : J → O → Type 0) (handed : O → Handed L F D) (line : Line L J O) : Type 0 where
@@ -21,10 +21,10 @@ pub record IsJoined {L F D J O : Type 0} (identity : L → Identity) (promise : 
   pub from_it : received joined.notes ++ known_items joined.notes ≡ sent joined.handed.notes
   pub once : EachOnce identity joined
 
--- By what the job of a worker promised of what it handed over, the service of a token could not be made there.
-pub record IsUnstarted {L F I J O : Type 0} (promise : J → O → Type 0) (handed : O → Handed L F (Departure I)) (lines : List (Line L J O)) (worker token : ℕ) (error : I) : Type 0 where
+-- By what the job of a worker promised of what it handed over, the service of a token could not be made there, for the first time or anew.
+pub record IsUnstarted {L F E I J O : Type 0} (promise : J → O → Type 0) (handed : O → Handed L F (Departure E I)) (lines : List (Line L J O)) (worker token : ℕ) (error : I) : Type 0 where
   pub line : Line L J O
   pub at : slice_get lines worker ≡ Some line
   pub out : O
   pub promised : promise (job_of line.running) out
-  pub departed : (handed out).departure ≡ Unstarted token error
+  pub departed : ((handed out).departure ≡ Unstarted token error) ⊎ ((readiness : E) × ((handed out).departure ≡ Faulted token readiness error))

@@ -19,12 +19,13 @@ module _ {F L E I : Type 0} (may_serve : F → ℕ → L → Ended L → Type 0)
     pub never_errs : (token : ℕ) (e : E) → may_ready factory token (Ready (Err e)) → ⊥
     pub clones : (copy : F) → is_clone factory copy → HasMeaningOf may_serve may_leave may_ready may_init may_make factory copy
 
-  -- A worker runs for a factory and so many listeners, over the other ends of the line's rings, on which nothing had gone.
+  -- A worker runs for a factory and so many listeners, over the other ends of the line's rings, on which nothing had gone; readiness never errs.
   pub record RunsFor {O : Type 0} (factory : F) (listeners : ℕ) (line : Line L (WorkerJob L F) O) : Type 0 where
     pub to_it : IsPair line.parcels (parcels_of (job_of line.running))
     pub from_it : IsPair (notes_of (job_of line.running)) line.notes
     pub unreceived : received (parcels_of (job_of line.running)) ≡ []
     pub unsent : sent (notes_of (job_of line.running)) ≡ []
+    pub never_errs : (token : ℕ) (e : E) → may_ready factory token (Ready (Err e)) → ⊥
     pub means : HasMeaningOf may_serve may_leave may_ready may_init may_make factory (factory_of (job_of line.running))
     pub as_many : listeners_of (job_of line.running) ≡ listeners
 

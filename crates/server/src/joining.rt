@@ -33,7 +33,7 @@ where
     }
 }
 
-// Joins a worker's thread, and tells which service could not be made, where one could not.
+// Joins a worker's thread, and tells which service could not be made, for the first time or anew, where one could not.
 fn join_one<Th, L, F>(
     rt: &Th,
     line: Line<L, WorkerJob<L, F>>,
@@ -42,14 +42,22 @@ where
     Th: Threads,
     L: Link + Send,
     F: ThreadFactory<L>,
-    requires { IsLine L.identity ⟦<WorkerJob<L, F> as Job>⟧.promise ⟦<Handed<L, F, Departure<<F::Factory as ServiceFactory<L>>::InitError>> as Handover<L>>⟧.handed line }
-    ensures joined { IsJoined L.identity ⟦<WorkerJob<L, F> as Job>⟧.promise ⟦<Handed<L, F, Departure<<F::Factory as ServiceFactory<L>>::InitError>> as Handover<L>>⟧.handed line }
-    ensures unstarted { IfSome result (λ u. IsUnstarted ⟦<WorkerJob<L, F> as Job>⟧.promise ⟦<Handed<L, F, Departure<<F::Factory as ServiceFactory<L>>::InitError>> as Handover<L>>⟧.handed (line ∷ []) 0 u.0 u.1) }
+    requires { IsLine L.identity ⟦<WorkerJob<L, F> as Job>⟧.promise ⟦<Handed<L, F, Departure<<F::Factory as ServiceFactory<L>>::Error, <F::Factory as ServiceFactory<L>>::InitError>> as Handover<L>>⟧.handed line }
+    ensures joined { IsJoined L.identity ⟦<WorkerJob<L, F> as Job>⟧.promise ⟦<Handed<L, F, Departure<<F::Factory as ServiceFactory<L>>::Error, <F::Factory as ServiceFactory<L>>::InitError>> as Handover<L>>⟧.handed line }
+    ensures unstarted { IfSome result (λ u. IsUnstarted ⟦<WorkerJob<L, F> as Job>⟧.promise ⟦<Handed<L, F, Departure<<F::Factory as ServiceFactory<L>>::Error, <F::Factory as ServiceFactory<L>>::InitError>> as Handover<L>>⟧.handed (line ∷ []) 0 u.0 u.1) }
 {
     let Joined { handed, .. } = line.join(rt);
     let Handed { departure, .. } = handed;
     match departure {
         Departure::Unstarted { token, error } => Some((token, error)),
+        Departure::Faulted {
+            token,
+            readiness,
+            error,
+        } => {
+            drop(readiness);
+            Some((token, error))
+        }
         Departure::Left | Departure::Memory => None,
     }
 }
@@ -66,9 +74,9 @@ where
     L: Link + Send,
     F: ThreadFactory<L>,
     requires as_many { (length parcels.items ≡ length running.items) × (length notes.items ≡ length running.items) }
-    requires lines { All (IsLine L.identity ⟦<WorkerJob<L, F> as Job>⟧.promise ⟦<Handed<L, F, Departure<<F::Factory as ServiceFactory<L>>::InitError>> as Handover<L>>⟧.handed) (lines_of parcels.items notes.items running.items) }
-    ensures joined { All (IsJoined L.identity ⟦<WorkerJob<L, F> as Job>⟧.promise ⟦<Handed<L, F, Departure<<F::Factory as ServiceFactory<L>>::InitError>> as Handover<L>>⟧.handed) (lines_of parcels.items notes.items running.items) }
-    ensures unstarted { IfSome result (λ u. IsUnstarted ⟦<WorkerJob<L, F> as Job>⟧.promise ⟦<Handed<L, F, Departure<<F::Factory as ServiceFactory<L>>::InitError>> as Handover<L>>⟧.handed (lines_of parcels.items notes.items running.items) u.worker u.token u.error) }
+    requires lines { All (IsLine L.identity ⟦<WorkerJob<L, F> as Job>⟧.promise ⟦<Handed<L, F, Departure<<F::Factory as ServiceFactory<L>>::Error, <F::Factory as ServiceFactory<L>>::InitError>> as Handover<L>>⟧.handed) (lines_of parcels.items notes.items running.items) }
+    ensures joined { All (IsJoined L.identity ⟦<WorkerJob<L, F> as Job>⟧.promise ⟦<Handed<L, F, Departure<<F::Factory as ServiceFactory<L>>::Error, <F::Factory as ServiceFactory<L>>::InitError>> as Handover<L>>⟧.handed) (lines_of parcels.items notes.items running.items) }
+    ensures unstarted { IfSome result (λ u. IsUnstarted ⟦<WorkerJob<L, F> as Job>⟧.promise ⟦<Handed<L, F, Departure<<F::Factory as ServiceFactory<L>>::Error, <F::Factory as ServiceFactory<L>>::InitError>> as Handover<L>>⟧.handed (lines_of parcels.items notes.items running.items) u.worker u.token u.error) }
 {
     let mut parcels = parcels;
     let mut notes = notes;

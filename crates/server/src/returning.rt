@@ -18,9 +18,9 @@ where
     L: Link + Send,
     F: ThreadFactory<L>,
     Do: Done<L>,
-    requires line { IsLine L.identity ⟦<WorkerJob<L, F> as Job>⟧.promise ⟦<Handed<L, F, Departure<<F::Factory as ServiceFactory<L>>::InitError>> as Handover<L>>⟧.handed line }
+    requires line { IsLine L.identity ⟦<WorkerJob<L, F> as Job>⟧.promise ⟦<Handed<L, F, Departure<<F::Factory as ServiceFactory<L>>::Error, <F::Factory as ServiceFactory<L>>::InitError>> as Handover<L>>⟧.handed line }
     requires room { many_put L.identity line ≤ many_back L.identity line + Do.spare done.old }
-    ensures { Returned L.identity ⟦<WorkerJob<L, F> as Job>⟧.promise ⟦<Handed<L, F, Departure<<F::Factory as ServiceFactory<L>>::InitError>> as Handover<L>>⟧.handed Do.taken Do.count Do.served Do.spare line done.old done.new }
+    ensures { Returned L.identity ⟦<WorkerJob<L, F> as Job>⟧.promise ⟦<Handed<L, F, Departure<<F::Factory as ServiceFactory<L>>::Error, <F::Factory as ServiceFactory<L>>::InitError>> as Handover<L>>⟧.handed Do.taken Do.count Do.served Do.spare line done.old done.new }
 {
     let joined = line.join(rt);
     joined.hand_on(done);
@@ -40,10 +40,10 @@ where
     F: ThreadFactory<L>,
     Do: Done<L>,
     requires as_many { (length parcels.items ≡ length running.items) × (length notes.items ≡ length running.items) }
-    requires lines { All (IsLine L.identity ⟦<WorkerJob<L, F> as Job>⟧.promise ⟦<Handed<L, F, Departure<<F::Factory as ServiceFactory<L>>::InitError>> as Handover<L>>⟧.handed) (lines_of parcels.items notes.items running.items) }
+    requires lines { All (IsLine L.identity ⟦<WorkerJob<L, F> as Job>⟧.promise ⟦<Handed<L, F, Departure<<F::Factory as ServiceFactory<L>>::Error, <F::Factory as ServiceFactory<L>>::InitError>> as Handover<L>>⟧.handed) (lines_of parcels.items notes.items running.items) }
     requires fewer { All (λ line. many_back L.identity line ≤ many_put L.identity line) (lines_of parcels.items notes.items running.items) }
     requires room { sum_by (many_put L.identity) (lines_of parcels.items notes.items running.items) ≤ sum_by (many_back L.identity) (lines_of parcels.items notes.items running.items) + Do.spare done.old }
-    ensures { ReturnsBy L.identity ⟦<WorkerJob<L, F> as Job>⟧.promise ⟦<Handed<L, F, Departure<<F::Factory as ServiceFactory<L>>::InitError>> as Handover<L>>⟧.handed Do.taken Do.count Do.served Do.spare (lines_of parcels.items notes.items running.items) done.old done.new }
+    ensures { ReturnsBy L.identity ⟦<WorkerJob<L, F> as Job>⟧.promise ⟦<Handed<L, F, Departure<<F::Factory as ServiceFactory<L>>::Error, <F::Factory as ServiceFactory<L>>::InitError>> as Handover<L>>⟧.handed Do.taken Do.count Do.served Do.spare (lines_of parcels.items notes.items running.items) done.old done.new }
 {
     let mut parcels = parcels;
     let mut notes = notes;

@@ -44,6 +44,7 @@ where
     Sp: Spawner,
     Do: Done<Li::Link>,
     Li::Link: 'static,
+    <F::Factory as ServiceFactory<Li::Link>>::Error: 'static,
     <F::Factory as ServiceFactory<Li::Link>>::InitError: 'static,
     requires ranges { IsInRange settings }
     requires few { vec_len listeners.old ≤ 64 }

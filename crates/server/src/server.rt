@@ -84,6 +84,7 @@ impl<F> Server<F> {
         Sp: Spawner,
         Do: Done<Li::Link>,
         Li::Link: 'static,
+        <F::Factory as ServiceFactory<Li::Link>>::Error: 'static,
         <F::Factory as ServiceFactory<Li::Link>>::InitError: 'static,
         requires few { vec_len listeners.old ≤ 64 }
         requires never_errs { (token : ℕ) (e : F.Factory.Error) → F.may_ready (factory_of self) token (Ready (Err e)) → ⊥ }

@@ -13,7 +13,7 @@ use service_core::{Link, ServiceFactory};
 use std::alloc::Global;
 use worker_job::WorkerJob;
 
-// Starts one worker, over two rings of so many places.
+// Starts one worker, over a ring of so many places to it, and one back that has a place more.
 fn start_worker<Ho, L, F, Sp>(
     spawner: &mut Sp,
     rt: &Ho,
@@ -26,9 +26,11 @@ where
     Ho: Host + 'static,
     L: Link + Send + 'static,
     F: ThreadFactory<L> + 'static,
+    <F::Factory as ServiceFactory<L>>::Error: 'static,
     <F::Factory as ServiceFactory<L>>::InitError: 'static,
     Sp: Spawner,
-    requires { MayStart F.may_serve F.may_leave F.may_ready F.may_init F.may_make F.is_clone factory.now listeners }
+    requires may_start { MayStart F.may_serve F.may_leave F.may_ready F.may_init F.may_make F.is_clone factory.now listeners }
+    requires places { ring ≤ 4096 }
     ensures line { IfOk result (IsStarted F.may_serve F.may_leave F.may_ready F.may_init F.may_make factory.now listeners) }
     ensures ok { OnOk result (Sp.starts spawner.new ≡ risen (Sp.starts spawner.old)) }
     ensures err { OnErr result (Sp.starts spawner.new ≡ Sp.starts spawner.old) }
@@ -38,7 +40,8 @@ where
     let Ok((parcels, taken)) = RingBuffer::new(alloc, ring) else {
         return Err(StartFault::Memory);
     };
-    let Ok((noted, notes)) = RingBuffer::new(alloc, ring) else {
+    // One place more, for the note of a fault.
+    let Ok((noted, notes)) = RingBuffer::new(alloc, ring + 1) else {
         return Err(StartFault::Memory);
     };
     let Ok(copy) = factory.clone() else {
@@ -72,9 +75,11 @@ where
     Ho: Host + 'static,
     L: Link + Send + 'static,
     F: ThreadFactory<L> + 'static,
+    <F::Factory as ServiceFactory<L>>::Error: 'static,
     <F::Factory as ServiceFactory<L>>::InitError: 'static,
     Sp: Spawner,
     requires may_start { MayStart F.may_serve F.may_leave F.may_ready F.may_init F.may_make F.is_clone factory.now listeners }
+    requires places { ring ≤ 4096 }
     requires none { (parcels.old.items ≡ []) × (notes.old.items ≡ []) × (running.old.items ≡ []) }
     requires room { (workers ≤ vec_capacity parcels.old) × (workers ≤ vec_capacity notes.old) × (workers ≤ vec_capacity running.old) }
     ensures started { All (IsStarted F.may_serve F.may_leave F.may_ready F.may_init F.may_make factory.now listeners) (lines_of parcels.new.items notes.new.items running.new.items) }

@@ -7,11 +7,12 @@ use Rattle.futures.specs.declared.task.Poll.TheVariants.{Pending as PollPending}
 use Rattle.service_core.specs.Counts.{Rose}
 use Rattle.service_core.specs.Meaning.{Readiness}
 use Rattle.worker_core.specs.WorkerCore.{MayAsk, MayRestart, Worker, after_ready, after_restarted, status_of}
+use Rattle.worker_core.specs.Statuses.{is_asked}
 use Rattle.worker_core.specs.WorkerRuns.{AllAllowed, WorkerCall, after_call, after_calls}
 use Rattle.worker_core.specs.declared.ready_answer.ReadyAnswer.{ReadyAnswer}
 use Rattle.worker_core.specs.declared.ready_answer.ReadyAnswer.TheVariants as answer
-use Rattle.worker_core.specs.declared.service_status.ServiceStatus.TheVariants.{Available, Failed, Restarting}
-use Rattle.server_worker.specs.Asking.{Check, ChecksUpTo, HasMoved, IsAccounted, MayAnswer, MayCheck, asked, calls_from, calls_of, passed, remade}
+use Rattle.worker_core.specs.declared.service_status.ServiceStatus.TheVariants.{Available, Failed, Restarting, Unavailable}
+use Rattle.server_worker.specs.Asking.{Check, ChecksUpTo, HasMoved, IsAccounted, MayAnswer, MayCheck, WasAsked, asked, calls_from, calls_of, passed, remade}
 use Rattle.server_worker.specs.Checking.{Checks}
 use Rattle.server_worker.specs.Standing.{AllMade, HasErred, IsMade, making_waits}
 use Rattle.server_worker.specs.declared.slot.Slot.{Slot}
@@ -65,6 +66,7 @@ module _ {E S MFut : Type 0} (may_ready : ℕ → Readiness E → Type 0) where
     pub upto : ChecksUpTo may_ready slots a now b n
     pub rest : (t : ℕ) → n ≤ t → slice_get now t ≡ slice_get slots t
     pub still : (t : ℕ) → n ≤ t → status_of b t ≡ Failed → status_of a t ≡ Failed
+    pub stands : (t : ℕ) → n ≤ t → is_asked (status_of a t) ≡ true → is_asked (status_of b t) ≡ true
     pub as_many : length now ≡ length slots
 
   pub checks_none : (slots now : List (Slot MFut S E)) (a b : Worker) → b ≡ a → ChecksUpTo may_ready slots a now b 0
@@ -72,13 +74,14 @@ module _ {E S MFut : Type 0} (may_ready : ℕ → Readiness E → Type 0) where
     checks = [];
     as_many = refl;
     may = λ t. tt;
+    asks = λ t below. absurd (omega arith);
     allowed = tt;
     core = same;
     accounted = λ t below. absurd (omega arith);
   }
 
   pub checked_none : (slots : List (Slot MFut S E)) (a : Worker) → CheckedTo slots a slots a 0
-  checked_none slots a = record { upto = checks_none slots slots a a refl; rest = λ t above. refl; still = λ t above failed. failed; as_many = refl }
+  checked_none slots a = record { upto = checks_none slots slots a a refl; rest = λ t above. refl; still = λ t above failed. failed; stands = λ t above is. is; as_many = refl }
 
   module _ (slots now next : List (Slot MFut S E)) (a b c : Worker) (n : ℕ) (so_far : CheckedTo slots a now b n) (it : Checks may_ready now b next c n) where
     pass : (t : ℕ) → t ≢ n → Passes (status_of b t) (status_of c t)
@@ -94,14 +97,22 @@ module _ {E S MFut : Type 0} (may_ready : ℕ → Readiness E → Type 0) where
     stays_available t was (inl same) = same ∙ was
     stays_available t was (inr failed) = absurd (let no : Available ≡ Failed = sym was ∙ failed.0 in cc)
 
+    stays_unavailable : (t : ℕ) → status_of b t ≡ Unavailable → Passes (status_of b t) (status_of c t) → status_of c t ≡ Unavailable
+    stays_unavailable t was (inl same) = same ∙ was
+    stays_unavailable t was (inr failed) = absurd (let no : Unavailable ≡ Failed = sym was ∙ failed.0 in cc)
+
+    stays_asked : (t : ℕ) → is_asked (status_of b t) ≡ true → Passes (status_of b t) (status_of c t) → is_asked (status_of c t) ≡ true
+    stays_asked t was (inl same) = ap is_asked same ∙ was
+    stays_asked t was (inr failed) = absurd (let no : false ≡ true = ap is_asked (sym failed.0) ∙ was in cc)
+
     earlier : (t : ℕ) → t < n → t ≢ n → IsAccounted may_ready slots a now b so_far.upto.checks t → IsAccounted may_ready slots a next c all t
     earlier t below other (inl available) = inl (stays_available t available (pass t other))
-    earlier t below other (inr (inl pending)) = inr (inl pending)
+    earlier t below other (inr (inl pending)) = inr (inl (stays_unavailable t pending.0 (pass t other), pending.1))
     earlier t below other (inr (inr (inl failed))) = inr (inr (inl failed))
     earlier t below other (inr (inr (inr (inl moved)))) = inr (inr (inr (inl (subst (λ o. HasMoved o) (sym (pushed_before so_far.upto.checks it.check t (let m = so_far.upto.as_many in omega (arith, below, m)))) moved))))
     earlier t below other (inr (inr (inr (inr rose)))) = inr (inr (inr (inr (rose.0, subst (λ o. Rose (making_waits (slice_get slots t)) (making_waits o)) (sym (it.others t other)) rose.1))))
 
-    here : (status_of c n ≡ Available) ⊎ (may_ready n PollPending ⊎ ((status_of b n ≡ Failed) ⊎ (HasMoved (Some it.check) ⊎ (HasErred (slice_get now n) × Rose (making_waits (slice_get now n)) (making_waits (slice_get next n)))))) → IsAccounted may_ready slots a next c all n
+    here : (status_of c n ≡ Available) ⊎ (((status_of c n ≡ Unavailable) × may_ready n PollPending) ⊎ ((status_of b n ≡ Failed) ⊎ (HasMoved (Some it.check) ⊎ (HasErred (slice_get now n) × Rose (making_waits (slice_get now n)) (making_waits (slice_get next n)))))) → IsAccounted may_ready slots a next c all n
     here (inl available) = inl available
     here (inr (inl pending)) = inr (inl pending)
     here (inr (inr (inl failed))) = inr (inr (inl (so_far.still n (omega arith) failed)))
@@ -118,6 +129,12 @@ module _ {E S MFut : Type 0} (may_ready : ℕ → Readiness E → Type 0) where
         checks = all;
         as_many = let m = so_far.upto.as_many in omega (arith, length_push so_far.upto.checks it.check, m);
         may = each_push (λ t. MayCheck (may_ready t)) so_far.upto.checks it.check n so_far.upto.as_many so_far.upto.may it.may;
+        asks = λ t below is. elim (cases_eq t n) [
+          | inl same ↦ subst (λ k. WasAsked (slice_get all k)) (sym same) (subst (λ o. WasAsked o) (sym (pushed_last so_far.upto.checks it.check n so_far.upto.as_many))
+              (it.asks (so_far.stands n (omega arith) (subst (λ k. is_asked (status_of a k) ≡ true) same is))))
+          | inr other ↦ let less : t < n = omega (arith, below, other) in
+              subst (λ o. WasAsked o) (sym (pushed_before so_far.upto.checks it.check t (let m = so_far.upto.as_many in omega (arith, less, m)))) (so_far.upto.asks t less is)
+        ];
         allowed = subst (AllAllowed a) (sym calls) (allowed_append a (calls_from 0 so_far.upto.checks) (calls_of n it.check) so_far.upto.allowed (subst (λ v. AllAllowed v (calls_of n it.check)) so_far.upto.core it.allowed));
         core = it.core ∙ ap (λ v. after_calls v (calls_of n it.check)) so_far.upto.core ∙ sym (after_append a (calls_from 0 so_far.upto.checks) (calls_of n it.check)) ∙ ap (after_calls a) (sym calls);
         accounted = λ t below. elim (cases_eq t n) [
@@ -127,6 +144,7 @@ module _ {E S MFut : Type 0} (may_ready : ℕ → Readiness E → Type 0) where
       };
       rest = λ t above. it.others t (omega (arith, above)) ∙ so_far.rest t (omega (arith, above));
       still = λ t above failed. so_far.still t (omega (arith, above)) (stays_failed t failed (pass t (omega (arith, above))));
+      stands = λ t above is. stays_asked t (so_far.stands t (omega (arith, above)) is) (pass t (omega (arith, above)));
       as_many = it.as_many ∙ so_far.as_many;
     }
 
@@ -136,6 +154,7 @@ module _ {E S MFut : Type 0} (may_ready : ℕ → Readiness E → Type 0) where
   checks_asked slots after a b token it may allowed core others many = record {
     check = asked it;
     may = may;
+    asks = λ is. tt;
     allowed = (allowed, tt);
     core = core;
     others = others;
@@ -144,9 +163,9 @@ module _ {E S MFut : Type 0} (may_ready : ℕ → Readiness E → Type 0) where
   }
     where
       by_answer : (it : ReadyAnswer) → MayAnswer (may_ready token) it → b ≡ after_ready a token it
-          → (status_of b token ≡ Available) ⊎ (may_ready token PollPending ⊎ ((status_of a token ≡ Failed) ⊎ (HasMoved (Some (asked it)) ⊎ (HasErred (slice_get slots token) × Rose (making_waits (slice_get slots token)) (making_waits (slice_get after token))))))
+          → (status_of b token ≡ Available) ⊎ (((status_of b token ≡ Unavailable) × may_ready token PollPending) ⊎ ((status_of a token ≡ Failed) ⊎ (HasMoved (Some (asked it)) ⊎ (HasErred (slice_get slots token) × Rose (making_waits (slice_get slots token)) (making_waits (slice_get after token))))))
       by_answer answer.Ready may core = inl (ap (λ w. status_of w token) core ∙ answered_same a token answer.Ready allowed.listens)
-      by_answer answer.NotReady may core = inr (inl may)
+      by_answer answer.NotReady may core = inr (inl (ap (λ w. status_of w token) core ∙ answered_same a token answer.NotReady allowed.listens, may))
       by_answer answer.Err may core = inr (inr (inr (inl tt)))
 
   pub checks_remade : (slots after : List (Slot MFut S E)) (a b : Worker) (token : ℕ) → MayRestart a token → b ≡ after_restarted a token
@@ -154,6 +173,7 @@ module _ {E S MFut : Type 0} (may_ready : ℕ → Readiness E → Type 0) where
   checks_remade slots after a b token allowed core others many = record {
     check = remade;
     may = tt;
+    asks = λ is. absurd (let no : false ≡ true = ap is_asked (sym allowed.restarts) ∙ is in cc);
     allowed = (allowed, tt);
     core = core;
     others = others;
@@ -161,11 +181,12 @@ module _ {E S MFut : Type 0} (may_ready : ℕ → Readiness E → Type 0) where
     accounted = inr (inr (inr (inl tt)));
   }
 
-  pub checks_waits : (slots after : List (Slot MFut S E)) (a b : Worker) (token : ℕ) → b ≡ a → (status_of a token ≡ Failed) ⊎ (HasErred (slice_get slots token) × Rose (making_waits (slice_get slots token)) (making_waits (slice_get after token)))
+  pub checks_waits : (slots after : List (Slot MFut S E)) (a b : Worker) (token : ℕ) → b ≡ a → is_asked (status_of a token) ≡ false → (status_of a token ≡ Failed) ⊎ (HasErred (slice_get slots token) × Rose (making_waits (slice_get slots token)) (making_waits (slice_get after token)))
       → ((t : ℕ) → t ≢ token → slice_get after t ≡ slice_get slots t) → length after ≡ length slots → Checks may_ready slots a after b token
-  checks_waits slots after a b token core why others many = record {
+  checks_waits slots after a b token core unasked why others many = record {
     check = passed;
     may = tt;
+    asks = λ is. absurd (let no : false ≡ true = sym unasked ∙ is in cc);
     allowed = tt;
     core = core;
     others = others;
@@ -185,6 +206,7 @@ module _ {E S MFut : Type 0} (may_ready : ℕ → Readiness E → Type 0) where
     checks = it.checks;
     as_many = it.as_many;
     may = it.may;
+    asks = it.asks;
     allowed = it.allowed;
     core = it.core;
     accounted = λ t below. by_cause t (it.accounted t below);

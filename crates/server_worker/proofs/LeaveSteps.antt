@@ -1,5 +1,5 @@
 -- What a worker has goes together, and is handed over.
-use Rattle.std.proofs.Common.{◌≡◌, ◌⊎◌, ℕ, ◌+◌, true, List, [], ◌∷◌, ◌++◌, length, sum_by, All, Contains, Result, refl, sym, ◌∙◌, ap, arith, subst, inl, inr, append_assoc}
+use Rattle.std.proofs.Common.{◌≡◌, ℕ, ◌+◌, List, [], ◌∷◌, ◌++◌, length, sum_by, All, Contains, Result, refl, sym, ◌∙◌, ap, arith, subst, inl, inr, append_assoc}
 use Rattle.std.specs.Prelude.{◌||◌}
 use Rattle.std.specs.List.{list_any}
 use Rattle.std.proofs.lemmas.List.{append-nil}
@@ -7,23 +7,18 @@ use Rattle.std.proofs.lemmas.List.Folds.{list_any-append}
 use Rattle.std.proofs.lemmas.List.Sums.{sum_by_push, sum_by-append}
 use Rattle.std.proofs.lemmas.List.Elements.{All-append, All-head, All-push}
 use Rattle.futures.specs.declared.future.Future.{Ghosts as FutureOf}
-use Rattle.rtrb.specs.Ring.{received, sent, SameProducer}
+use Rattle.rtrb.specs.Ring.{received, sent}
 use Rattle.service_core.specs.Link.{Identity}
 use Rattle.service_core.specs.declared.ended.Ended.{Ended}
-use Rattle.server_jobs.specs.Cards.{Card, of_note, of_parcel, of_waiting}
+use Rattle.server_jobs.specs.Cards.{Card, of_parcel, of_waiting}
 use Rattle.server_jobs.specs.declared.handed.Handed.{Handed}
-use Rattle.server_jobs.specs.declared.note.Note.{Note}
-use Rattle.server_jobs.specs.declared.note.Note.TheVariants.{Faulted}
 use Rattle.server_jobs.specs.declared.parcel.Parcel.{Parcel}
 use Rattle.server_jobs.specs.declared.parcel.Parcel.TheVariants.{Conn}
 use Rattle.server_jobs.specs.declared.waiting.Waiting.{Waiting}
 use Rattle.server_worker.specs.Holding.{of_live}
 use Rattle.server_worker.specs.Leaving.{Gathers, HasStayed, Leaves, Runs, Unqueues}
-use Rattle.server_worker.specs.Polled.{OwesMore}
-use Rattle.server_worker.specs.Posted.{Posts}
-use Rattle.server_worker.specs.Sound.{IsSound, IsTold, Lives, Waits}
+use Rattle.server_worker.specs.Sound.{IsTold, Lives, Waits}
 use Rattle.server_jobs.specs.Parcels.{is_force, is_stop}
-use Rattle.server_worker.specs.Telling.{TellsFault, newly}
 use Rattle.server_worker.specs.declared.connections.Connections.{Connections}
 use Rattle.server_worker.specs.declared.live.Live.{Live}
 use Rattle.server_worker.proofs.Accounting.{accounts_trans}
@@ -126,7 +121,7 @@ gathered identity may_leave a b out g queue live parcels notes owed rest = recor
 module _ {L Fut : Type 0} (identity : L → Identity) (may_serve : ℕ → L → Ended L → Type 0) (may_leave : ℕ → L → L → Type 0) (may_make : ℕ → Type 0) (listeners : ℕ) where
   pub runs_none : (a : Connections L Fut) → Runs identity may_serve may_leave may_make listeners a a
   runs_none a = record {
-    accounts = record { parcels = ((refl, refl, refl, refl), refl); notes = ((refl, refl, refl, refl), refl); once = λ h. refl };
+    accounts = record { parcels = ((refl, refl, refl, refl), refl); notes = ((refl, refl, refl, refl), refl); spares = λ free. free; once = λ h. refl };
     receives = record { more = []; came = sym (append-nil _); stopped = or_none a.stopped; forced = or_none a.forced };
     tells = record { more = []; appended = sym (append-nil _); told = λ i d inside. absurd (omega arith) };
   }
@@ -150,45 +145,6 @@ module _ {L Fut : Type 0} (identity : L → Identity) (may_serve : ℕ → L →
     };
   }
 
-  -- a note more was owed, and what was owed went on the ring
-  module _ {E : Type 0} (g : FutureOf Fut (Result (Ended L) E)) (may_stand : Fut → L → Type 0) (a m b : Connections L Fut) (owes : OwesMore identity Faulted a m) (posts : Posts m b)
-      (sound : IsSound g may_stand may_serve may_leave may_make listeners a) (owed : All (IsTold may_serve may_leave may_make listeners (received a.parcels)) m.owed.items) where
-    told_all : All (IsTold may_serve may_leave may_make listeners (received b.parcels)) (posts.more ++ b.owed.items)
-    told_all = rw (posts.parcels, owes.parcels) (subst (All (IsTold may_serve may_leave may_make listeners (received a.parcels))) posts.kept owed)
-
-    pub fault_runs : Runs identity may_serve may_leave may_make listeners a b
-    fault_runs = record {
-      accounts = record {
-        parcels = rw (posts.parcels, owes.parcels) ((refl, refl, refl, refl), refl);
-        notes = subst (λ n. SameProducer n b.notes) owes.notes posts.notes;
-        once = λ h.
-            let n = ap (λ p. sum_by (of_note identity h) (sent p)) owes.notes in
-            let q = ap (λ q. sum_by (of_waiting identity h) q.items) (posts.queue ∙ owes.queue) in
-            let s = ap (λ q. sum_by (of_waiting identity h) q.items) (posts.strays ∙ owes.strays) in
-            let p = ap (λ p. sum_by (of_parcel identity h) (received p)) (posts.parcels ∙ owes.parcels) in
-            let l = ap (λ l. sum_by (of_live identity h) l.items) (posts.live ∙ owes.live) in
-            let k = ap (sum_by (of_note identity h)) posts.appended in
-            let o = ap (sum_by (of_note identity h)) posts.kept in
-            omega (arith, owes.once h, n, q, s, p, l, k, o, sum_by-append (of_note identity h) (sent m.notes) posts.more, sum_by-append (of_note identity h) posts.more b.owed.items);
-      };
-      receives = record { more = []; came = ap (λ p. received p) (posts.parcels ∙ owes.parcels) ∙ sym (append-nil _); stopped = posts.stopped ∙ owes.stopped ∙ or_none a.stopped; forced = posts.forced ∙ owes.forced ∙ or_none a.forced };
-      tells = record {
-        more = posts.more;
-        appended = posts.appended ∙ ap (λ n. sent n ++ posts.more) owes.notes;
-        told = all_left (IsTold may_serve may_leave may_make listeners (received b.parcels)) posts.more b.owed.items told_all;
-      };
-    }
-
-    pub fault_sound : IsSound g may_stand may_serve may_leave may_make listeners b
-    fault_sound = record {
-      stop = rw (posts.parcels, posts.stopped, owes.parcels, owes.stopped) sound.stop;
-      force = rw (posts.parcels, posts.forced, owes.parcels, owes.forced) sound.force;
-      queue = rw (posts.parcels, posts.queue, owes.parcels, owes.queue) sound.queue;
-      strays = rw (posts.parcels, posts.strays, owes.parcels, owes.strays) sound.strays;
-      live = rw (posts.parcels, posts.live, owes.parcels, owes.live) sound.live;
-      owed = all_right (IsTold may_serve may_leave may_make listeners (received b.parcels)) posts.more b.owed.items told_all;
-    }
-
 module _ {X : Type 0} (P : X → Type 0) (now rest : List X) (x : X) where
   pub last_of : now ≡ rest ++ x ∷ [] → All P now → P x
   last_of is all = All-head P x [] (all_right P rest (x ∷ []) (subst (All P) is all))
@@ -196,20 +152,6 @@ module _ {X : Type 0} (P : X → Type 0) (now rest : List X) (x : X) where
   pub rest_of : now ≡ rest ++ x ∷ [] → All P now → All P rest
   rest_of is all = all_left P rest (x ∷ []) (subst (All P) is all)
 
-pub fault_told : {L : Type 0} (P : Note L → Type 0) (before now : List (Note L)) → (now ≡ before) ⊎ (now ≡ before ++ Faulted ∷ []) → P Faulted → All P before → All P now
-fault_told P before now (inl same) told all = rw same all
-fault_told P before now (inr more) told all = rw more (All-push P before Faulted all told)
-
 pub lives_still : {L E Fut : Type 0} (g : FutureOf Fut (Result (Ended L) E)) (may_stand : Fut → L → Type 0) (may_serve : ℕ → L → Ended L → Type 0) (may_leave : ℕ → L → L → Type 0)
     (a b : Connections L Fut) → b.parcels ≡ a.parcels → b.live ≡ a.live → All (Lives g may_stand may_serve may_leave (received a.parcels)) a.live.items → All (Lives g may_stand may_serve may_leave (received b.parcels)) b.live.items
 lives_still g may_stand may_serve may_leave a b parcels live all = rw (parcels, live) all
-
--- the acceptor is told of the fault by what is owed, and no other note comes
-pub tells_fault : {L Fut : Type 0} (identity : L → Identity) (a m b : Connections L Fut) → OwesMore identity Faulted a m → Posts m b → m.told ≡ true → TellsFault a b
-tells_fault identity a m b owes posts told = record {
-  once = λ f.
-      let n = ap (λ p. sum_by f (sent p)) owes.notes in
-      let k = ap (λ x. newly (f Faulted) a.told x) posts.told_ready in
-      omega (arith, owes.signals f, n, k, ap (sum_by f) posts.appended, ap (sum_by f) posts.kept, sum_by-append f (sent m.notes) posts.more, sum_by-append f posts.more b.owed.items);
-  told = posts.told_ready ∙ told;
-}

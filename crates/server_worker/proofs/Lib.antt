@@ -2,6 +2,7 @@ pub mod Accounting
 pub mod AdmitSteps
 pub mod AskSteps
 pub mod BeginSteps
+pub mod ChangeSteps
 pub mod LeaveSteps
 pub mod Lists
 pub mod MakeSteps

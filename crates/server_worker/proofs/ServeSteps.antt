@@ -50,6 +50,7 @@ module _ {L E Fut : Type 0} (g : FutureOf Fut (Result (Ended L) E)) (may_stand :
   serves_accounts = record {
     parcels = rw (posts.parcels, polled.parcels) ((refl, refl, refl, refl), refl);
     notes = subst (λ n. SameProducer n b.notes) polled.notes posts.notes;
+    spares = λ free. posts.spares (rw polled.notes free);
     once = λ h.
         let n = ap (λ p. sum_by (of_note identity h) (sent p)) polled.notes in
         let q = ap (λ q. sum_by (of_waiting identity h) q.items) (posts.queue ∙ polled.queue) in
@@ -178,6 +179,7 @@ module _ {L Fut : Type 0} (identity : L → Identity) (b c d e : Connections L F
       between = record {
         parcels = rw (admits.parcels, owes.parcels) ((refl, refl, refl, refl), refl);
         notes = rw (admits.notes, owes.notes) ((refl, refl, refl, refl), refl);
+        spares = rw (admits.notes, owes.notes) (λ free. free);
         once = λ h.
             let n = ap (λ p. sum_by (of_note identity h) (sent p)) (admits.notes ∙ owes.notes) in
             let o = ap (λ q. sum_by (of_note identity h) q.items) admits.owed in
@@ -195,6 +197,7 @@ module _ {L E Fut : Type 0} (g : FutureOf Fut (Result (Ended L) E)) (may_stand :
   posted_accounts = record {
     parcels = rw posts.parcels ((refl, refl, refl, refl), refl);
     notes = posts.notes;
+    spares = posts.spares;
     once = λ h.
         let q = ap (λ q. sum_by (of_waiting identity h) q.items) posts.queue in
         let s = ap (λ q. sum_by (of_waiting identity h) q.items) posts.strays in

@@ -36,7 +36,7 @@ is_the_restarting Stopping e = absurd (true≢false (sym e))
 is_the_restarting Stopped e = absurd (true≢false (sym e))
 
 -- ---- what one call makes of each service
-answered_other : (w : Worker) (token t : ℕ) (a : ReadyAnswer) → t ≢ token → status_of (after_ready w token a) t ≡ status_of w t
+pub answered_other : (w : Worker) (token t : ℕ) (a : ReadyAnswer) → t ≢ token → status_of (after_ready w token a) t ≡ status_of w t
 answered_other w token t a other = get_or-set_other w.services token t (answer_status w a) Unavailable other
 
 pub answered_same : (w : Worker) (token : ℕ) (a : ReadyAnswer) → token < length w.services → status_of (after_ready w token a) token ≡ answer_status w a
@@ -71,7 +71,7 @@ next_other services token t (Some j) other is =
 pub restarted_own : (w : Worker) (token : ℕ) → token < length w.services → status_of (after_restarted w token) token ≡ Unavailable
 restarted_own w token inside = next_own w.services token (position is_failed (set w.services token Unavailable)) inside refl
 
-restarted_other : (w : Worker) (token t : ℕ) → t ≢ token → Passes (status_of w t) (status_of (after_restarted w token) t)
+pub restarted_other : (w : Worker) (token t : ℕ) → t ≢ token → Passes (status_of w t) (status_of (after_restarted w token) t)
 restarted_other w token t other = next_other w.services token t (position is_failed (set w.services token Unavailable)) other refl
 
 pub calls_pass : (w : Worker) (token : ℕ) (check : Check) (t : ℕ) → t ≢ token → Passes (status_of w t) (status_of (after_calls w (calls_of token check)) t)
@@ -87,10 +87,22 @@ failure_fits Fut S w error = by_other (list_any is_restarting w.services)
     by_other true = refl
     by_other false = refl
 
-answer_asked : (w : Worker) (a : ReadyAnswer) → (a ≡ answer.Err → ⊥) → is_asked (answer_status w a) ≡ true
+pub answer_asked : (w : Worker) (a : ReadyAnswer) → (a ≡ answer.Err → ⊥) → is_asked (answer_status w a) ≡ true
 answer_asked w answer.Ready no_error = refl
 answer_asked w answer.NotReady no_error = refl
 answer_asked w answer.Err no_error = absurd (no_error refl)
+
+-- where it did not err each service stands as before
+pub answer_stays : (w v : Worker) (token : ℕ) (a : ReadyAnswer) → v ≡ after_ready w token a → (a ≡ answer.Err → ⊥) → MayAsk w token → (t : ℕ) → is_asked (status_of v t) ≡ is_asked (status_of w t)
+answer_stays w v token a is no_error allowed t = ap (λ v. is_asked (status_of v t)) is ∙ elim (cases_eq t token) [
+  | inl same ↦ subst (λ k. is_asked (status_of (after_ready w token a) k) ≡ is_asked (status_of w k)) (sym same)
+      (ap is_asked (answered_same w token a allowed.listens) ∙ answer_asked w a no_error ∙ sym allowed.asked)
+  | inr other ↦ ap is_asked (answered_other w token t a other)
+]
+
+-- so it is where none of them changed
+pub asked_same : (w v : Worker) → v ≡ w → (t : ℕ) → is_asked (status_of v t) ≡ is_asked (status_of w t)
+asked_same w v same t = ap (λ v. is_asked (status_of v t)) same
 
 module _ {Fut S E : Type 0} where
   fits_next : (o : Option (Slot Fut S E)) → fits_at Failed o ≡ true → fits_at Restarting o ≡ true

@@ -61,6 +61,7 @@ module _ {L E Fut : Type 0} (g : FutureOf Fut (Result (Ended L) E)) (may_stand :
   gone_accounts = record {
     parcels = rw (posts.parcels, goes.parcels) ((refl, refl, refl, refl), refl);
     notes = subst (λ n. SameProducer n b.notes) goes.notes posts.notes;
+    spares = λ free. posts.spares (rw goes.notes free);
     once = λ h.
         let q = ap (λ q. sum_by (of_waiting identity h) q.items) (posts.queue ∙ goes.queue) in
         let s = ap (λ q. sum_by (of_waiting identity h) q.items) (posts.strays ∙ goes.strays) in
@@ -99,6 +100,7 @@ module _ {L Fut : Type 0} (identity : L → Identity) (a m e : Connections L Fut
       given = record {
         parcels = rw gives.parcels ((refl, refl, refl, refl), refl);
         notes = rw gives.notes ((refl, refl, refl, refl), refl);
+        spares = rw gives.notes (λ free. free);
         once = λ h.
             let p = ap (λ p. sum_by (of_parcel identity h) (received p)) gives.parcels in
             let l = ap (λ l. sum_by (of_live identity h) l.items) gives.live in

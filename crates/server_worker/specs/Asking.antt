@@ -1,7 +1,8 @@
 -- How the services of a worker are asked whether they are ready, and made anew where they erred.
-use Rattle.std.specs.Prelude.{◌≡◌, ◌⊎◌, ◌<◌, ◌+◌, ◌++◌, ⊤, ℕ, List, [], ◌∷◌, length, Option, None, Some, IfSome, slice_get, Ok, Err}
+use Rattle.std.specs.Prelude.{◌≡◌, ◌⊎◌, ◌<◌, ◌+◌, ◌++◌, ⊤, true, ℕ, List, [], ◌∷◌, length, Option, None, Some, IfSome, slice_get, Ok, Err}
 use Rattle.futures.specs.declared.task.Poll.TheVariants.{Ready as PollReady, Pending as PollPending}
 use Rattle.worker_core.specs.WorkerCore.{Worker, status_of}
+use Rattle.worker_core.specs.Statuses.{is_asked}
 use Rattle.worker_core.specs.WorkerRuns.{AllAllowed, WorkerCall, after_calls, ready, restarted}
 use Rattle.worker_core.specs.declared.ready_answer.ReadyAnswer.{ReadyAnswer}
 use Rattle.worker_core.specs.declared.ready_answer.ReadyAnswer.TheVariants as answer
@@ -28,6 +29,13 @@ MayCheck may_ready passed = ⊤
 MayCheck may_ready (asked it) = MayAnswer may_ready it
 MayCheck may_ready remade = ⊤
 
+-- it was asked
+abbrev pub WasAsked : Option Check → Type 0
+WasAsked None = ⊥
+WasAsked (Some passed) = ⊥
+WasAsked (Some (asked it)) = ⊤
+WasAsked (Some remade) = ⊥
+
 -- the call of the core for it
 abbrev pub calls_of : ℕ → Check → List WorkerCall
 calls_of token passed = []
@@ -48,10 +56,10 @@ HasMoved (Some (asked answer.NotReady)) = ⊥
 HasMoved (Some (asked answer.Err)) = ⊤
 HasMoved (Some remade) = ⊤
 
--- A service is available, or was pending, or waited for another one to be made anew, or erred or was made anew now, or had erred before, and the count of its making rose.
+-- A service is available, or is not since it was pending, or waited for another one to be made anew, or erred or was made anew now, or had erred before, and the count of its making rose.
 abbrev pub IsAccounted : {E S MFut : Type 0} → (ℕ → Readiness E → Type 0) → List (Slot MFut S E) → Worker → List (Slot MFut S E) → Worker → List Check → ℕ → Type 0
 IsAccounted may_ready slots a after b checks token =
-    (status_of b token ≡ status.Available) ⊎ (may_ready token PollPending ⊎ ((status_of a token ≡ status.Failed) ⊎ (HasMoved (slice_get checks token)
+    (status_of b token ≡ status.Available) ⊎ (((status_of b token ≡ status.Unavailable) × may_ready token PollPending) ⊎ ((status_of a token ≡ status.Failed) ⊎ (HasMoved (slice_get checks token)
     ⊎ (HasErred (slice_get slots token) × Rose (making_waits (slice_get slots token)) (making_waits (slice_get after token))))))
 
 -- The services before a number were checked, each once: it was asked where it stood, and made anew where it was to be and could be. The core took that, and nothing else.
@@ -59,6 +67,7 @@ pub record ChecksUpTo {E S MFut : Type 0} (may_ready : ℕ → Readiness E → T
   pub checks : List Check
   pub as_many : length checks ≡ n
   pub may : (token : ℕ) → IfSome (slice_get checks token) (MayCheck (may_ready token))
+  pub asks : (token : ℕ) → token < n → is_asked (status_of a token) ≡ true → WasAsked (slice_get checks token)
   pub allowed : AllAllowed a (calls_from 0 checks)
   pub core : b ≡ after_calls a (calls_from 0 checks)
   pub accounted : (token : ℕ) → token < n → IsAccounted may_ready slots a after b checks token

@@ -1,12 +1,13 @@
 -- What is done about one service in a turn.
-use Rattle.std.specs.Prelude.{◌≡◌, ◌≢◌, ◌⊎◌, ⊤, ℕ, List, length, Option, None, Some, slice_get}
+use Rattle.std.specs.Prelude.{◌≡◌, ◌≢◌, ◌⊎◌, ⊤, true, ℕ, List, length, Option, None, Some, slice_get}
 use Rattle.futures.specs.declared.task.Poll.TheVariants.{Pending as PollPending}
 use Rattle.worker_core.specs.WorkerCore.{Worker, status_of}
+use Rattle.worker_core.specs.Statuses.{is_asked}
 use Rattle.worker_core.specs.WorkerRuns.{AllAllowed, after_calls}
 use Rattle.worker_core.specs.declared.service_status.ServiceStatus.TheVariants as status
 use Rattle.service_core.specs.Counts.{Rose}
 use Rattle.service_core.specs.Meaning.{Readiness}
-use Rattle.server_worker.specs.Asking.{Check, HasMoved, MayCheck, calls_of}
+use Rattle.server_worker.specs.Asking.{Check, HasMoved, MayCheck, WasAsked, calls_of}
 use Rattle.server_worker.specs.Standing.{HasErred, making_waits}
 use Rattle.server_worker.specs.declared.checked.Checked.{Checked}
 use Rattle.server_worker.specs.declared.checked.Checked.TheVariants.{Stayed, Moved, Refused}
@@ -50,9 +51,10 @@ IsChecked (Refused readiness error) = ⊥
 pub record Checks {E S MFut : Type 0} (may_ready : ℕ → Readiness E → Type 0) (slots : List (Slot MFut S E)) (a : Worker) (after : List (Slot MFut S E)) (b : Worker) (token : ℕ) : Type 0 where
   pub check : Check
   pub may : MayCheck (may_ready token) check
+  pub asks : is_asked (status_of a token) ≡ true → WasAsked (Some check)
   pub allowed : AllAllowed a (calls_of token check)
   pub core : b ≡ after_calls a (calls_of token check)
   pub others : (t : ℕ) → t ≢ token → slice_get after t ≡ slice_get slots t
   pub as_many : length after ≡ length slots
-  pub accounted : (status_of b token ≡ status.Available) ⊎ (may_ready token PollPending ⊎ ((status_of a token ≡ status.Failed) ⊎ (HasMoved (Some check)
+  pub accounted : (status_of b token ≡ status.Available) ⊎ (((status_of b token ≡ status.Unavailable) × may_ready token PollPending) ⊎ ((status_of a token ≡ status.Failed) ⊎ (HasMoved (Some check)
       ⊎ (HasErred (slice_get slots token) × Rose (making_waits (slice_get slots token)) (making_waits (slice_get after token))))))

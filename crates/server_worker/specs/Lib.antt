@@ -1,4 +1,5 @@
 pub mod Asking
+pub mod Changes
 pub mod Checking
 pub mod Ending
 pub mod Holding

@@ -32,11 +32,6 @@ pub record TellsNoReady {L Fut : Type 0} (a b : Connections L Fut) : Type 0 wher
   pub count : (f : Note L → ℕ) → WeighsSignals f → noted f b ≡ noted f a
   pub told : b.told ≡ a.told
 
--- That the worker ends by a fault is told where nothing of its services was told before, once, and no other note came.
-pub record TellsFault {L Fut : Type 0} (a b : Connections L Fut) : Type 0 where
-  pub once : (f : Note L → ℕ) → noted f b ≡ noted f a + newly (f Faulted) a.told b.told
-  pub told : b.told ≡ true
-
 -- That all services stand was told in between where it had not been told before, and once, and only where each was made. No other note
 -- came but those that hand connections back.
 pub record TellsReady {L Fut MFut S E : Type 0} (slots : List (Slot MFut S E)) (a b : Connections L Fut) : Type 0 where

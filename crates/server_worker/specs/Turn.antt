@@ -1,5 +1,5 @@
 -- What a worker is between two turns, and when a turn may say that it goes on.
-use Rattle.std.specs.Prelude.{◌≡◌, ◌≢◌, ◌↔◌, ◌<◌, ◌⊎◌, ⊤, ℕ, Bool, true, false, List, [], length, slice_get, Result}
+use Rattle.std.specs.Prelude.{◌≡◌, ◌≢◌, ◌↔◌, ◌<◌, ◌≤◌, ◌⊎◌, ⊤, ℕ, Bool, true, false, List, [], length, slice_get, Result}
 use Rattle.futures.specs.declared.future.Future.{Ghosts as FutureOf}
 use Rattle.rtrb.specs.Ring.{known_free}
 use Rattle.service_core.specs.Counts.{Rose}
@@ -42,8 +42,8 @@ IsFaulted (Faulted token readiness error) = ⊤
 
 -- What a worker waits for when it goes on, beside what its services do that were made. After a stop it asks nothing of its services.
 pub record GoesOn {L S Fac E Fut MFut : Type 0} (before : List (Slot MFut S E)) (services : Services Fac MFut S E) (hand : Connections L Fut) : Type 0 where
-  -- it keeps no note while a place of their ring is known free
-  pub notes : (hand.owed.items ≡ []) ⊎ (known_free hand.notes ≡ 0)
+  -- it keeps no note while a place of their ring is known free beside the last one, which is for the note that it ends by a fault
+  pub notes : (hand.owed.items ≡ []) ⊎ (known_free hand.notes ≤ 1)
   -- where it makes services, not all stand, and each that doesn't was pending
   pub unmade : hand.stopped ≡ false → services.made ≡ false → ¬ AllMade services.slots.items
   pub making : hand.stopped ≡ false → services.made ≡ false → (token : ℕ) → token < length services.slots.items

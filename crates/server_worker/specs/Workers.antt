@@ -64,7 +64,7 @@ module _ {L F Fac E S I MFut Fut : Type 0} where
   abbrev pub is_asking : Worker L F Fac E S I MFut Fut → Bool
   is_asking w = w.services.made && not w.hand.stopped
 
-  -- it told that all its services stand, or that it ends by a fault, or is to tell it by what is owed
+  -- it told that all its services stand, or is to tell it by what is owed
   abbrev pub told_of : Worker L F Fac E S I MFut Fut → Bool
   told_of w = w.hand.told
 

@@ -22,14 +22,14 @@ pub(crate) struct Connections<L: Drop, Fut> {
     pub(crate) stopped: bool,
     // A stop came that is not graceful.
     pub(crate) forced: bool,
-    // The acceptor was told that all services stand, or that the worker ends by a fault, or is to be told by what is owed.
+    // The acceptor was told that all services stand, or is to be told by what is owed.
     pub(crate) told: bool,
     // Each that waits has its place among the live ones, and each has its way back.
     ghost places: { vec_len live + deque_len queue ≤ vec_capacity live },
     ghost ways: { deque_len owed + (vec_len live + (deque_len queue + vec_len strays)) ≤ deque_capacity owed },
     // Each has a place among the strays, where those that have not ended are put together at the end.
     ghost stays: { vec_len strays + (vec_len live + deque_len queue) ≤ vec_capacity strays },
-    // So has the note that all services stand, or the one that the worker ends by a fault.
+    // So has the note that all services stand.
     ghost way_of_ready: { told ≡ false → deque_len owed + (vec_len live + (deque_len queue + vec_len strays)) < deque_capacity owed },
     ghost forces: { forced ≡ true → stopped ≡ true },
 }

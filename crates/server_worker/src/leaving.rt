@@ -2,34 +2,19 @@
 ghost use Rattle.std.specs.Prelude.{◌≡◌, ◌⊎◌, ◌++◌, ◌∷◌, ◌+◌, [], length, vec_len, IsTrue, IsFalse, All, true};
 ghost use Rattle.std.specs.VecDeque.{deque_len};
 ghost use Rattle.rtrb.specs.Ring.{received};
-ghost use Rattle.server_jobs.specs.declared.note.Note.TheVariants.{Faulted};
-ghost use Rattle.server_worker.specs.Leaving.{Gathers, Leaves, Runs, Unqueues};
-ghost use Rattle.server_worker.specs.Polled.{OwesMore};
+ghost use Rattle.server_worker.specs.Leaving.{Gathers, Leaves, Unqueues};
 ghost use Rattle.server_worker.specs.Sound.{IsSound, Lives, Serves};
-ghost use Rattle.server_worker.specs.Telling.{TellsFault};
 ghost use Rattle.server_worker.specs.Workers.{factory_of, forced_of, hand_of, held_by, listeners_of, stopped_of, total_of};
 ghost use Rattle.server_worker.specs.declared.connections.Connections.{Connections};
 
 use crate::connections::Connections;
 use crate::live::Live;
 use crate::worker::Worker;
-use server_jobs::{Handed, Note, Waiting};
+use server_jobs::{Handed, Waiting};
 use server_run::ServerServiceFactory;
 use service_core::{Link, LinkHolder, Service, ServiceFactory};
 
 impl<L: Link, Fut: Drop> Connections<L, Fut> {
-    // Owes the acceptor the note that the worker ends by a fault, in the place of the one that its services stand.
-    fn owe_fault(&mut self)
-        ensures owes { OwesMore L.identity Faulted self.old self.new }
-        ensures owed { (self.new.owed.items ≡ self.old.owed.items) ⊎ (self.new.owed.items ≡ self.old.owed.items ++ Faulted ∷ []) }
-        ensures told { self.new.told ≡ true }
-    {
-        if !self.told {
-            self.told = true;
-            self.owed.push_back_reserved(Note::Faulted);
-        }
-    }
-
     // The first of those that wait goes to the strays. False where there is none.
     fn unqueue_one(&mut self) -> bool
         ensures unqueues { Unqueues self.old self.new }
@@ -122,25 +107,6 @@ where
 }
 
 impl<L: Link, F: ServerServiceFactory<L>> Worker<L, F> {
-    /// Lets the acceptor know, once, that the worker ends by a fault. It does nothing where it has told that all services stand.
-    pub fn tell_fault(&mut self)
-        requires sound { IsSound F.Factory.Service.Future.Future F.Factory.Service.Future.may_stand (F.may_serve (factory_of self.old)) (F.may_leave (factory_of self.old)) (F.may_make (factory_of self.old))
-            (listeners_of self.old) (hand_of self.old) }
-        ensures sound { IsSound F.Factory.Service.Future.Future F.Factory.Service.Future.may_stand (F.may_serve (factory_of self.new)) (F.may_leave (factory_of self.new)) (F.may_make (factory_of self.new))
-            (listeners_of self.new) (hand_of self.new) }
-        ensures factory { factory_of self.new ≡ factory_of self.old }
-        ensures listeners { listeners_of self.new ≡ listeners_of self.old }
-        ensures runs { Runs L.identity (F.may_serve (factory_of self.new)) (F.may_leave (factory_of self.new)) (F.may_make (factory_of self.new)) (listeners_of self.new) (hand_of self.old) (hand_of self.new) }
-        ensures fault { TellsFault (hand_of self.old) (hand_of self.new) }
-        ensures stopped { stopped_of self.new ≡ stopped_of self.old }
-        ensures forced { forced_of self.new ≡ forced_of self.old }
-        ensures held { held_by self.new ≡ held_by self.old }
-        ensures total { total_of self.new ≡ total_of self.old }
-    {
-        self.hand.owe_fault();
-        self.hand.post();
-    }
-
     /// Takes the worker apart, and hands over what it has: its ends of the rings, its factory, the notes for which the ring back
     /// had no place, and each connection that it holds, as it stands.
     pub fn into_handed<D>(self, departure: D) -> Handed<L, F, D>

@@ -7,6 +7,7 @@ mod checked;
 mod connections;
 mod fault;
 mod finished;
+mod laws;
 mod leaving;
 mod live;
 mod making;
@@ -22,6 +23,7 @@ mod turning;
 mod worker;
 mod worker_parts;
 
+pub use laws::a_service_changes_at_most_twice_a_turn;
 pub use turned::Turned;
 pub use worker::Worker;
 pub use worker_parts::WorkerParts;

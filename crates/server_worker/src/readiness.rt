@@ -1,7 +1,8 @@
 //! How a worker asks its services whether they are ready, and makes anew those that erred.
-ghost use Rattle.std.specs.Prelude.{◌≡◌, ◌≢◌, ◌<◌, ℕ, length, slice_get, slice_set, Err, IfNone, IfSome, Some};
+ghost use Rattle.std.specs.Prelude.{◌≡◌, ◌≢◌, ◌<◌, ℕ, length, slice_get, slice_set, Err, IfNone, IfSome, IsFalse, Some};
 ghost use Rattle.futures.specs.declared.task.Poll.TheVariants.{Ready as PollReady};
-ghost use Rattle.futures.specs.Task.{Keeps};
+ghost use Rattle.futures.specs.Task.{IsArmed, Keeps};
+ghost use Rattle.worker_core.specs.Statuses.{is_asked};
 ghost use Rattle.worker_core.specs.WorkerCore.{MayAsk, MayRestart, after_ready, after_restarted, status_of};
 ghost use Rattle.worker_core.specs.declared.ready_answer.ReadyAnswer.TheVariants as answers;
 ghost use Rattle.worker_core.specs.declared.service_status.ServiceStatus.TheVariants as status;
@@ -9,7 +10,8 @@ ghost use Rattle.server_run.specs.Creating.{Stands};
 ghost use Rattle.server_worker.specs.Checking.{Checks, IsChecked, IsDown, IsRemaking, IsStanding};
 ghost use Rattle.server_worker.specs.Standing.{AllMade, AreFactories, AreSlots, IsMade, IsSlot, making_waits};
 ghost use Rattle.server_worker.specs.Asking.{ChecksUpTo};
-ghost use Rattle.server_worker.specs.declared.checked.Checked.TheVariants.{Refused};
+ghost use Rattle.server_worker.specs.Changes.{HasChanged};
+ghost use Rattle.server_worker.specs.declared.checked.Checked.TheVariants.{Refused, Stayed};
 ghost use Rattle.server_worker.specs.declared.slot.Slot.TheVariants.{Failed, Made};
 
 use crate::checked::Checked;
@@ -105,6 +107,7 @@ where
     requires slot { IfSome (slice_get services.old.slots.items token) (IsSlot F.Factory.Future.Future F.Factory.Service.Service F.Factory.Service.Future.may_stand
         (F.may_serve factory.now token) (F.may_leave factory.now token) (F.may_ready factory.now token) (F.may_init factory.now token) (F.may_make factory.now token)) }
     ensures checks { Checks (F.may_ready factory.now) services.old.slots.items services.old.core services.new.slots.items services.new.core token }
+    ensures stayed { IsFalse result → (t : ℕ) → is_asked (status_of services.new.core t) ≡ is_asked (status_of services.old.core t) }
     ensures slot { IfSome (slice_get services.new.slots.items token) (IsSlot F.Factory.Future.Future F.Factory.Service.Service F.Factory.Service.Future.may_stand
         (F.may_serve factory.now token) (F.may_leave factory.now token) (F.may_ready factory.now token) (F.may_init factory.now token) (F.may_make factory.now token)) }
     ensures is_made { IsMade (slice_get services.new.slots.items token) }
@@ -194,6 +197,7 @@ where
     ensures is_made { IsMade (slice_get services.new.slots.items token) }
     ensures others { (t : ℕ) → t ≢ token → slice_get services.new.slots.items t ≡ slice_get services.old.slots.items t }
     ensures as_many { length services.new.slots.items ≡ length services.old.slots.items }
+    ensures stayed { result ≡ Stayed → (t : ℕ) → is_asked (status_of services.new.core t) ≡ is_asked (status_of services.old.core t) }
     ensures refused { (readiness : F.Factory.Error) (error : F.Factory.InitError) → result ≡ Refused readiness error
         → F.may_ready factory.now token (PollReady (Err readiness)) × F.may_init factory.now token error }
     ensures made { services.new.made ≡ services.old.made }
@@ -246,6 +250,7 @@ where
     ensures is_made { IsMade (slice_get services.new.slots.items token) }
     ensures others { (t : ℕ) → t ≢ token → slice_get services.new.slots.items t ≡ slice_get services.old.slots.items t }
     ensures as_many { length services.new.slots.items ≡ length services.old.slots.items }
+    ensures stayed { result ≡ Stayed → (t : ℕ) → is_asked (status_of services.new.core t) ≡ is_asked (status_of services.old.core t) }
     ensures refused { (readiness : F.Factory.Error) (error : F.Factory.InitError) → result ≡ Refused readiness error
         → F.may_ready factory.now token (PollReady (Err readiness)) × F.may_init factory.now token error }
     ensures made { services.new.made ≡ services.old.made }
@@ -298,6 +303,7 @@ where
         (F.may_serve factory.now) (F.may_leave factory.now) (F.may_ready factory.now) (F.may_init factory.now) (F.may_make factory.now) services.new.slots.items) }
     ensures all_made { AllMade services.new.slots.items }
     ensures as_many { length services.new.slots.items ≡ length services.old.slots.items }
+    ensures armed { IfNone result ((t : ℕ) → HasChanged services.old.core services.new.core t → IsArmed cx.new) }
     ensures fault { IfSome result (λ fault. (fault.token < length services.new.slots.items) × F.may_ready factory.now fault.token (PollReady (Err fault.readiness)) × F.may_init factory.now fault.token fault.error) }
     ensures made { services.new.made ≡ services.old.made }
     ensures factories { services.new.factories ≡ services.old.factories }

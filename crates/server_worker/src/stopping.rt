@@ -1,5 +1,5 @@
 //! What a worker does once it was stopped.
-ghost use Rattle.std.specs.Prelude.{◌≡◌, ◌+◌, ◌⊎◌, ℕ, [], Bool, true, false, length, vec_len, IsTrue, IsFalse};
+ghost use Rattle.std.specs.Prelude.{◌≡◌, ◌≤◌, ◌+◌, ◌⊎◌, ℕ, [], Bool, true, false, length, vec_len, IsTrue, IsFalse};
 ghost use Rattle.std.specs.VecDeque.{deque_len};
 ghost use Rattle.futures.specs.Task.{Keeps};
 ghost use Rattle.rtrb.specs.Ring.{known_free};
@@ -155,7 +155,7 @@ impl<L: Link, F: ServerServiceFactory<L>> Worker<L, F> {
         ensures strays { self.new.hand.strays ≡ self.old.hand.strays }
         ensures stopped { self.new.hand.stopped ≡ self.old.hand.stopped }
         ensures forced { self.new.hand.forced ≡ self.old.hand.forced }
-        ensures notes { (self.new.hand.owed.items ≡ []) ⊎ (known_free self.new.hand.notes ≡ 0) }
+        ensures notes { (self.new.hand.owed.items ≡ []) ⊎ (known_free self.new.hand.notes ≤ 1) }
         ensures total { self.new.total ≡ vec_len self.old.hand.live }
     {
         self.total = self.hand.live.len() as u64;
@@ -193,7 +193,7 @@ impl<L: Link, F: ServerServiceFactory<L>> Worker<L, F> {
         ensures parcels { self.new.hand.parcels ≡ self.old.hand.parcels }
         ensures stopped { self.new.hand.stopped ≡ true }
         ensures forced { self.new.hand.forced ≡ self.old.hand.forced }
-        ensures notes { (self.new.hand.owed.items ≡ []) ⊎ (known_free self.new.hand.notes ≡ 0) }
+        ensures notes { (self.new.hand.owed.items ≡ []) ⊎ (known_free self.new.hand.notes ≤ 1) }
         ensures total { self.old.hand.forced ≡ false → self.new.total ≡ vec_len self.new.hand.live + (deque_len self.new.hand.queue + vec_len self.new.hand.strays) }
         ensures live_total { self.old.hand.forced ≡ true → self.new.total ≡ vec_len self.old.hand.live }
         ensures comes { ComesTo true self.old.hand.forced self.new.total all result }

@@ -157,9 +157,9 @@ impl Ledger {
         Ok(true)
     }
 
-    /// Takes what the ring back holds. Whether that was all of its places, or more.
+    /// Takes what the ring back holds. Whether that was all of its places, but the one for the note of a fault.
     pub(crate) fn take(&mut self, ends: &mut Ends) -> Result<bool, AllocError> {
-        for _ in 0..ends.notes.capacity() {
+        for _ in 1..ends.notes.capacity() {
             if !self.take_one(ends)? {
                 return Ok(false);
             }

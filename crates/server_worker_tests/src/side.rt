@@ -16,7 +16,7 @@ pub(crate) struct Side {
     running: Running<Clerk>,
 }
 
-/// A worker that was started, over rings with so many places. None where no thread was started.
+/// A worker that was started, over a ring with so many places to it, and one back with a place more. None where no thread was started.
 pub(crate) fn started<Ho: Host + 'static, Sp: Spawner>(
     rt: &Ho,
     spawner: &mut Sp,
@@ -26,7 +26,7 @@ pub(crate) fn started<Ho: Host + 'static, Sp: Spawner>(
     ledger: Ledger,
 ) -> Result<Option<Side>, AllocError> {
     let (parcels, inward) = RingBuffer::new(alloc, places)?;
-    let (outward, notes) = RingBuffer::new(alloc, places)?;
+    let (outward, notes) = RingBuffer::new(alloc, places.saturating_add(1))?;
     let clerk = Clerk {
         queue,
         alloc,

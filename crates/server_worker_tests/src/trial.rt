@@ -21,7 +21,7 @@ pub(crate) struct Trial {
     pub(crate) plan: Plan,
     /// How many places the ring to it has.
     pub(crate) inward: usize,
-    /// How many places the ring back has.
+    /// How many places the ring back has, beside the one for the note of a fault.
     pub(crate) outward: usize,
     /// Before which turn it is told to stop.
     pub(crate) stop: Option<u32>,
@@ -81,7 +81,7 @@ pub(crate) fn ending<R: Given>(
     let alloc = rt.alloc();
     let queue = queue_of_one(rt)?;
     let (parcels, inward) = RingBuffer::new(alloc, trial.inward)?;
-    let (outward, notes) = RingBuffer::new(alloc, trial.outward)?;
+    let (outward, notes) = RingBuffer::new(alloc, trial.outward.saturating_add(1))?;
     let mut ends = Ends { parcels, notes };
     let mut station = opened(alloc, inward, outward, trial.plan)?;
     turn_all(rt, &queue, &trial, &mut station, &mut ends, ledger)

@@ -1,10 +1,11 @@
 //! Runs that are told by a handle, or by a signal.
 use futures::Future;
+use futures::task::Context;
 use futures::test::MockTask;
 use serve_stage::Answer::{Give, NotYet, Wait};
 use serve_stage::{Answer, Begun, Countdown, EndAfter, Log, PLAIN, Plan, served_by};
 use server::{Server, ServerBuilder};
-use server_commands::{Commands, GracefulShutdownSignal, NoCommands, Reply, ServerHandle};
+use server_commands::{Commands, GracefulShutdownSignal, Next, NoCommands, Reply, ServerHandle};
 use server_run::Host;
 use std::alloc::{AllocError, AllocGlobal, Global};
 use std::io;
@@ -56,6 +57,12 @@ fn replies_at_once<Ho: Host>(
     Ok(is_done(task, &mut later))
 }
 
+// Asks a source of commands once, which makes room for the flags of four replies: so the commands that are posted come at the first
+// ask behind it, also where one allocation is refused.
+fn make_room<Co: Commands>(task: &MockTask, commands: &mut Co) {
+    let _: Next = task.enter(|cx: &mut Context<'_>| commands.next(cx));
+}
+
 // Whether a pause and a stop that are told a server before its run are replied to once it has served, and what is told it later at
 // once.
 fn replies_once_served<Ho>(rt: &Ho) -> io::Result<bool>
@@ -65,6 +72,7 @@ where
     let task = MockTask::new(rt)?;
     let builder = STILL.builder(rt.alloc())?;
     let mut commands = builder.handle_commands(rt)?;
+    make_room(&task, &mut commands);
     let server = server_of(rt.alloc(), builder)?;
     let handle = server.handle()?;
     let mut pause = handle.pause(rt)?;

@@ -21,17 +21,18 @@ pub fn what_is_handed_over_is_accounted_for<L, F>()
 where
     L: Link,
     F: ServerServiceFactory<L>,
-    ensures { (job : WorkerJob L F) (out : Handed L F (Departure F.Factory.InitError))
-        → HandsOver L.identity F.may_serve F.may_leave F.may_init F.may_make job out → Accounts L.identity (parcels_of job) (notes_of job) out }
+    ensures { (job : WorkerJob L F) (out : Handed L F (Departure F.Factory.Error F.Factory.InitError))
+        → HandsOver L.identity F.may_serve F.may_leave F.may_ready F.may_init F.may_make job out → Accounts L.identity (parcels_of job) (notes_of job) out }
 {}
 
 /// So a worker's job that runs over the other ends of a line's rings, on which nothing had gone, can be joined.
 pub fn a_line_to_a_worker_can_be_joined<L, F>()
 where
     L: Link + Send,
-    F: ServerServiceFactory<L, Factory: ServiceFactory<L, InitError: Drop + Send>> + Send,
-    ensures { (line : Line L (WorkerJob L F) (Handed L F (Departure F.Factory.InitError)))
+    F: ServerServiceFactory<L, Factory: ServiceFactory<L, Error: Send, InitError: Drop + Send>>
+        + Send,
+    ensures { (line : Line L (WorkerJob L F) (Handed L F (Departure F.Factory.Error F.Factory.InitError)))
         → IsPair line.parcels (parcels_of (job_of line.running)) → IsPair (notes_of (job_of line.running)) line.notes
         → received (parcels_of (job_of line.running)) ≡ [] → sent (notes_of (job_of line.running)) ≡ []
-        → IsLine L.identity ⟦<WorkerJob<L, F> as Job>⟧.promise ⟦<Handed<L, F, Departure<<F::Factory as ServiceFactory<L>>::InitError>> as Handover<L>>⟧.handed line }
+        → IsLine L.identity ⟦<WorkerJob<L, F> as Job>⟧.promise ⟦<Handed<L, F, Departure<<F::Factory as ServiceFactory<L>>::Error, <F::Factory as ServiceFactory<L>>::InitError>> as Handover<L>>⟧.handed line }
 {}

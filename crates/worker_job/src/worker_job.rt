@@ -48,13 +48,21 @@ impl<L, F> WorkerJob<L, F> {
 
 impl<
     L: Link + Send,
-    F: ServerServiceFactory<L, Factory: ServiceFactory<L, InitError: Drop + Send>> + Send,
+    F: ServerServiceFactory<L, Factory: ServiceFactory<L, Error: Send, InitError: Drop + Send>>
+        + Send,
 > Job for WorkerJob<L, F> {
-    type Out = Handed<L, F, Departure<<F::Factory as ServiceFactory<L>>::InitError>>;
+    type Out = Handed<
+        L,
+        F,
+        Departure<
+            <F::Factory as ServiceFactory<L>>::Error,
+            <F::Factory as ServiceFactory<L>>::InitError,
+        >,
+    >;
 
-    ghost can_work = { λ job. CanWork F.may_ready job };
+    ghost can_work = { λ job. CanWork job };
 
-    ghost promise = { λ job out. HandsOver L.identity F.may_serve F.may_leave F.may_init F.may_make job out };
+    ghost promise = { λ job out. HandsOver L.identity F.may_serve F.may_leave F.may_ready F.may_init F.may_make job out };
 
     // Makes the worker in its thread, turns it until it ends, and hands over what it has.
     fn work<Ho: Host>(self, waiter: Waiter<Ho>) -> Self::Out {

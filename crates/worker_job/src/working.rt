@@ -1,12 +1,14 @@
 //! What the thread of a worker does.
-ghost use Rattle.std.specs.Prelude.{◌≡◌};
+ghost use Rattle.std.specs.Prelude.{◌≡◌, ◌<◌};
+ghost use Rattle.rtrb.specs.Ring.{known_free};
 ghost use Rattle.server_worker.specs.Room.{IsFresh};
-ghost use Rattle.server_worker.specs.Workers.{hand_of, held_by};
-ghost use Rattle.worker_job.specs.Promise.{HandsOver, TellsOfItself};
-ghost use Rattle.worker_job.specs.Working.{CanTurn, Departs, IsMadeOf, Says, Turns};
+ghost use Rattle.server_worker.specs.Workers.{hand_of, held_by, notes_of};
+ghost use Rattle.worker_job.specs.Promise.{HandsOver};
+ghost use Rattle.worker_job.specs.Working.{CanTurn, Departs, IsMadeOf, SaysBefore, Turns};
 ghost use Rattle.worker_job.specs.declared.worker_job.WorkerJob.{WorkerJob};
 
 use crate::departure::Departure;
+use crate::giving_up::tell_fault;
 use futures::task::Context;
 use server_jobs::{Handed, OneTask, SeatTask, Waiter};
 use server_run::ServerServiceFactory;
@@ -49,24 +51,27 @@ fn rest<'a, Ho: Wait + Clock>(
 }
 
 // Makes turns until the worker was stopped and holds nothing, which is at once by a stop that is not graceful, or a service of its
-// can't be made.
+// can't be made, for the first time or anew.
 fn make_turns<'a, Ho, L, F>(
     host: &Ho,
     task: Option<&'a OneTask>,
     cx: Context<'a>,
     waiter: &mut Waiter<Ho>,
     worker: &mut Worker<L, F>,
-) -> Departure<<F::Factory as ServiceFactory<L>>::InitError>
+) -> Departure<
+    <F::Factory as ServiceFactory<L>>::Error,
+    <F::Factory as ServiceFactory<L>>::InitError,
+>
 where
     Ho: Wait + Clock,
     L: Link,
-    F: ServerServiceFactory<L, Factory: ServiceFactory<L, InitError: Drop>>,
+    F: ServerServiceFactory<L, Factory: ServiceFactory<L, Error: Drop, InitError: Drop>>,
     requires can { CanTurn F.Factory.ServiceFactory F.Factory.Future.Future F.Factory.Service.Service F.Factory.Service.Future.Future F.Factory.Service.Future.may_stand
         F.may_serve F.may_leave F.may_ready F.may_init F.may_make worker.old }
     requires fresh { IsFresh (hand_of worker.old) }
     ensures turns { Turns F.Factory.Service.Future.Future F.Factory.Service.Future.may_stand L.identity F.may_serve F.may_leave F.may_make worker.old worker.new }
-    ensures departs { Departs F.may_init worker.new result }
-    ensures signals { TellsOfItself (Says (hand_of worker.old) (hand_of worker.new)) result }
+    ensures departs { Departs F.may_ready F.may_init worker.new result }
+    ensures signals { SaysBefore (hand_of worker.old) (hand_of worker.new) result }
 {
     let mut cx = cx;
     for _ in host.forever() {
@@ -81,32 +86,23 @@ where
             }
             Turned::Unstarted { token, error } => {
                 cx.cancel();
-                worker.tell_fault();
                 return Departure::Unstarted { token, error };
             }
-            Turned::Faulted { .. } => unreachable!(),
+            Turned::Faulted {
+                token,
+                readiness,
+                error,
+            } => {
+                cx.cancel();
+                return Departure::Faulted {
+                    token,
+                    readiness,
+                    error,
+                };
+            }
         }
     }
     unreachable!()
-}
-
-// The end of a worker that has no memory to begin with.
-fn lack_memory<L, F>(
-    worker: &mut Worker<L, F>,
-) -> Departure<<F::Factory as ServiceFactory<L>>::InitError>
-where
-    L: Link,
-    F: ServerServiceFactory<L>,
-    requires can { CanTurn F.Factory.ServiceFactory F.Factory.Future.Future F.Factory.Service.Service F.Factory.Service.Future.Future F.Factory.Service.Future.may_stand
-        F.may_serve F.may_leave F.may_ready F.may_init F.may_make worker.old }
-    requires fresh { IsFresh (hand_of worker.old) }
-    requires none_held { held_by worker.old ≡ 0 }
-    ensures turns { Turns F.Factory.Service.Future.Future F.Factory.Service.Future.may_stand L.identity F.may_serve F.may_leave F.may_make worker.old worker.new }
-    ensures departs { Departs F.may_init worker.new result }
-    ensures signals { TellsOfItself (Says (hand_of worker.old) (hand_of worker.new)) result }
-{
-    worker.tell_fault();
-    Departure::Memory
 }
 
 // Makes all turns, as one task: of the seat's number where the waiter sleeps, since there a link finds its thread by the task.
@@ -114,33 +110,36 @@ fn turn_on<Ho, L, F>(
     alloc: Global,
     waiter: &mut Waiter<Ho>,
     worker: &mut Worker<L, F>,
-) -> Departure<<F::Factory as ServiceFactory<L>>::InitError>
+) -> Departure<
+    <F::Factory as ServiceFactory<L>>::Error,
+    <F::Factory as ServiceFactory<L>>::InitError,
+>
 where
     Ho: Clone + Drop + Wait + Clock,
     L: Link,
-    F: ServerServiceFactory<L, Factory: ServiceFactory<L, InitError: Drop>>,
+    F: ServerServiceFactory<L, Factory: ServiceFactory<L, Error: Drop, InitError: Drop>>,
     requires can { CanTurn F.Factory.ServiceFactory F.Factory.Future.Future F.Factory.Service.Service F.Factory.Service.Future.Future F.Factory.Service.Future.may_stand
         F.may_serve F.may_leave F.may_ready F.may_init F.may_make worker.old }
     requires fresh { IsFresh (hand_of worker.old) }
     requires none_held { held_by worker.old ≡ 0 }
     ensures turns { Turns F.Factory.Service.Future.Future F.Factory.Service.Future.may_stand L.identity F.may_serve F.may_leave F.may_make worker.old worker.new }
-    ensures departs { Departs F.may_init worker.new result }
-    ensures signals { TellsOfItself (Says (hand_of worker.old) (hand_of worker.new)) result }
+    ensures departs { Departs F.may_ready F.may_init worker.new result }
+    ensures signals { SaysBefore (hand_of worker.old) (hand_of worker.new) result }
 {
     let Ok(host) = waiter.host().clone() else {
-        return lack_memory(worker);
+        return Departure::Memory;
     };
     if waiter.sleeps() {
         let Some(mut task) = SeatTask::new(alloc, waiter.number()) else {
-            return lack_memory(worker);
+            return Departure::Memory;
         };
         let Some(cx) = task.begin(&host) else {
-            return lack_memory(worker);
+            return Departure::Memory;
         };
         return make_turns(&host, None, cx, waiter, worker);
     }
     let Some(task) = OneTask::new(alloc, waiter.number()) else {
-        return lack_memory(worker);
+        return Departure::Memory;
     };
     let cx = task.begin();
     make_turns(&host, Some(&task), cx, waiter, worker)
@@ -151,21 +150,30 @@ pub(crate) fn run<Ho, L, F>(
     alloc: Global,
     waiter: Waiter<Ho>,
     worker: Worker<L, F>,
-) -> Handed<L, F, Departure<<F::Factory as ServiceFactory<L>>::InitError>>
+) -> Handed<
+    L,
+    F,
+    Departure<
+        <F::Factory as ServiceFactory<L>>::Error,
+        <F::Factory as ServiceFactory<L>>::InitError,
+    >,
+>
 where
     Ho: Clone + Drop + Wait + Clock,
     L: Link,
-    F: ServerServiceFactory<L, Factory: ServiceFactory<L, InitError: Drop>>,
+    F: ServerServiceFactory<L, Factory: ServiceFactory<L, Error: Drop, InitError: Drop>>,
     requires can { CanTurn F.Factory.ServiceFactory F.Factory.Future.Future F.Factory.Service.Service F.Factory.Service.Future.Future F.Factory.Service.Future.may_stand
         F.may_serve F.may_leave F.may_ready F.may_init F.may_make worker }
     requires fresh { IsFresh (hand_of worker) }
     requires none_held { held_by worker ≡ 0 }
-    ensures { (job : WorkerJob L F) → IsMadeOf worker job → HandsOver L.identity F.may_serve F.may_leave F.may_init F.may_make job result }
+    requires place { 0 < known_free (notes_of worker) }
+    ensures { (job : WorkerJob L F) → IsMadeOf worker job → HandsOver L.identity F.may_serve F.may_leave F.may_ready F.may_init F.may_make job result }
 {
     let mut waiter = waiter;
     let mut worker = worker;
     let departure = turn_on(alloc, &mut waiter, &mut worker);
-    let handed = worker.into_handed(departure);
+    let mut handed = worker.into_handed(departure);
+    tell_fault(&mut handed);
     waiter.leave();
     handed
 }

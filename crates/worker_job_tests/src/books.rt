@@ -117,6 +117,7 @@ impl Books {
         let is_told = match ending {
             Ending::Left => !self.faulted && self.stayed == 0,
             Ending::Unstarted { .. } => self.faulted && !self.ready && self.back == 0,
+            Ending::Faulted { .. } => self.faulted && self.ready,
             Ending::Memory => false,
         };
         is_told && !self.wrong && self.back.saturating_add(self.stayed) == self.count

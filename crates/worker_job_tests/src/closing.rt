@@ -13,13 +13,13 @@ pub(crate) struct Closing {
 }
 
 impl Future for Closing {
-    type Output = Result<Ended<Tag>, ()>;
+    type Output = Result<Ended<Tag>, usize>;
 
     ghost can_poll = { λ f. IsSome f.link };
 
     ghost gives = { λ _ r. IsOk r };
 
-    fn poll(&mut self, cx: &mut Context<'_>) -> Poll<Result<Ended<Tag>, ()>> {
+    fn poll(&mut self, cx: &mut Context<'_>) -> Poll<Result<Ended<Tag>, usize>> {
         if !self.waited {
             self.waited = true;
             return cx.yield_now();

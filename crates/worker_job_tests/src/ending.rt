@@ -12,17 +12,35 @@ pub(crate) enum Ending {
         /// The token that the error names.
         named: usize,
     },
+    /// The service of that token erred, by an error that names a token, and the factory refused another one by such an error.
+    Faulted {
+        /// The token.
+        token: usize,
+        /// The token that the service's error names.
+        erred: usize,
+        /// The token that the factory's error names.
+        named: usize,
+    },
     /// There was no memory.
     Memory,
 }
 
 impl Ending {
     /// The ending that the job tells.
-    pub(crate) fn of(departure: &Departure<usize>) -> Ending {
+    pub(crate) fn of(departure: &Departure<usize, usize>) -> Ending {
         match departure {
             Departure::Left => Ending::Left,
             Departure::Unstarted { token, error } => Ending::Unstarted {
                 token: *token,
+                named: *error,
+            },
+            Departure::Faulted {
+                token,
+                readiness,
+                error,
+            } => Ending::Faulted {
+                token: *token,
+                erred: *readiness,
                 named: *error,
             },
             Departure::Memory => Ending::Memory,

@@ -9,7 +9,7 @@ use std::alloc::AllocError;
 use worker_job::Departure;
 
 /// What a join of the tests gives.
-pub(crate) type Found = Joined<Tag, Plan, Departure<usize>>;
+pub(crate) type Found = Joined<Tag, Plan, Departure<usize, usize>>;
 
 // Takes the notes that are left in the ring back.
 fn take_notes(notes: &mut Consumer<Note<Tag>>, books: &mut Books) {

@@ -10,13 +10,32 @@ use std::alloc::{AllocError, AllocGlobal, Global};
 use std::test::Fail;
 
 // All services are made.
-const PLAIN: Plan = Plan { refused: None };
+const PLAIN: Plan = Plan {
+    refused: None,
+    erring: None,
+};
 
 // The service of the token 1 is refused.
-const REFUSING: Plan = Plan { refused: Some(1) };
+const REFUSING: Plan = Plan {
+    refused: Some(1),
+    erring: None,
+};
 
 // What a worker of such services comes to.
 const NAMED: Ending = Ending::Unstarted { token: 1, named: 1 };
+
+// The service of the token 1 errs when it is asked, and can't be made anew.
+const ERRING: Plan = Plan {
+    refused: None,
+    erring: Some(1),
+};
+
+// What a worker of such services comes to.
+const FAULTED: Ending = Ending::Faulted {
+    token: 1,
+    erred: 1,
+    named: 1,
+};
 
 // Sends to both, and takes from both, until all came back and both were told to stop, within so many looks. They are many, since
 // a worker that holds nothing wakes who looks at each of its turns.
@@ -106,5 +125,11 @@ fn a_job_names_the_token_that_is_refused_and_loses_none(rt: HostRuntime) -> Resu
 #[test]
 fn a_job_that_is_only_stopped_leaves(rt: HostRuntime) -> Result<(), Fail> {
     assert!(rt; ends_alone(&rt, rt.alloc(), PLAIN, 0, Ending::Left)?);
+    Ok(())
+}
+
+#[test]
+fn a_job_names_both_errors_of_a_service_and_loses_none(rt: HostRuntime) -> Result<(), Fail> {
+    assert!(rt; ends_alone(&rt, rt.alloc(), ERRING, 3, FAULTED)?);
     Ok(())
 }

@@ -1,11 +1,11 @@
-ghost use Rattle.std.specs.Prelude.{◌≡◌, ⊤, Ok};
+ghost use Rattle.std.specs.Prelude.{⊤};
 ghost use Rattle.std.proofs.Common.{refl};
-ghost use Rattle.futures.specs.declared.task.Poll.TheVariants.{Ready as PollReady};
 
 use crate::maker::Maker;
 use crate::tag::Tag;
 use server_run::ServerServiceFactory;
 use std::alloc::{AllocError, Global};
+use std::cell::Cell;
 
 /// How many listeners a worker of the tests has.
 pub(crate) const LISTENERS: usize = 2;
@@ -15,6 +15,8 @@ pub(crate) const LISTENERS: usize = 2;
 pub(crate) struct Plan {
     /// The token whose service is refused.
     pub(crate) refused: Option<usize>,
+    /// The token whose service errs when it is asked, and can't be made anew.
+    pub(crate) erring: Option<usize>,
 }
 
 impl ServerServiceFactory<Tag> for Plan {
@@ -24,15 +26,19 @@ impl ServerServiceFactory<Tag> for Plan {
 
     ghost may_leave = { λ _ _ _ _. ⊤ };
 
-    ghost may_ready = { λ _ _ answer. answer ≡ PollReady (Ok tt) };
+    ghost may_ready = { λ _ _ _. ⊤ };
 
     ghost may_init = { λ _ _ _. ⊤ };
 
     ghost may_make = { λ _ _. ⊤ };
 
     fn create(&self, _alloc: Global, token: usize) -> Result<Maker, AllocError> {
-        let refuses = self.refused == Some(token);
-        Ok(Maker { token, refuses })
+        Ok(Maker {
+            token,
+            refuses: self.refused == Some(token),
+            errs: self.erring == Some(token),
+            made: Cell::new(false),
+        })
     }
 
     ghost same_served = { λ _ _ _ _ _. refl };

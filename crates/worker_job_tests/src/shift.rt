@@ -1,5 +1,6 @@
 //! The job of the tests.
-ghost use Rattle.std.specs.Prelude.{⊤};
+ghost use Rattle.std.specs.Prelude.{◌<◌};
+ghost use Rattle.rtrb.specs.Ring.{known_free};
 ghost use Rattle.server_jobs.specs.Joins.{Accounts};
 
 use crate::plan::{LISTENERS, Plan};
@@ -12,7 +13,7 @@ use std::alloc::Global;
 use worker_job::{Departure, WorkerJob, what_is_handed_over_is_accounted_for};
 
 /// What it hands over.
-pub(crate) type Done = Handed<Tag, Plan, Departure<usize>>;
+pub(crate) type Done = Handed<Tag, Plan, Departure<usize, usize>>;
 
 /// Does the job of a worker, which it makes of these parts in its thread. Its type names nothing that the plan makes, so what
 /// holds one that runs need not name it.
@@ -27,7 +28,7 @@ pub(crate) struct Shift {
 impl Job for Shift {
     type Out = Done;
 
-    ghost can_work = { λ _. ⊤ };
+    ghost can_work = { λ shift. 0 < known_free shift.notes };
 
     ghost promise = { λ shift out. Accounts ⟦<Tag as Link>⟧.identity shift.parcels shift.notes out };
 

@@ -6,19 +6,19 @@ use Rattle.server.proofs.joining.join_all.Goals as goal
 
 pub loop-last-init : goal.loop-last-init
 loop-last-init g c = record {
-  so_far = joined_none g.L.Link.identity (λ job out. HandsOver g.L.Link.identity g.F.ServerServiceFactory.may_serve g.F.ServerServiceFactory.may_leave g.F.ServerServiceFactory.may_init g.F.ServerServiceFactory.may_make job out) (λ all. all) _ c.requires.lines;
+  so_far = joined_none g.L.Link.identity (λ job out. HandsOver g.L.Link.identity g.F.ServerServiceFactory.may_serve g.F.ServerServiceFactory.may_leave g.F.ServerServiceFactory.may_ready g.F.ServerServiceFactory.may_init g.F.ServerServiceFactory.may_make job out) (λ all. all) _ c.requires.lines;
   as_many = c.requires.as_many;
 }
 
 pub join_one-requires-after_bounds : goal.join_one-requires-after_bounds
 join_one-requires-after_bounds g c κs within =
-    joined_next g.L.Link.identity (λ job out. HandsOver g.L.Link.identity g.F.ServerServiceFactory.may_serve g.F.ServerServiceFactory.may_leave g.F.ServerServiceFactory.may_init g.F.ServerServiceFactory.may_make job out) (λ all. all) _ _ _ _ _
+    joined_next g.L.Link.identity (λ job out. HandsOver g.L.Link.identity g.F.ServerServiceFactory.may_serve g.F.ServerServiceFactory.may_leave g.F.ServerServiceFactory.may_ready g.F.ServerServiceFactory.may_init g.F.ServerServiceFactory.may_make job out) (λ all. all) _ _ _ _ _
     (lines_popped _ _ _ _ _ _ c.in-Some-pop.producer c.in-Some-pop-2.consumer c.in-Some.last c.in-Some-pop.ensures.items c.in-Some-pop-2.ensures.items c.in-Some.ensures.items c.loop-last.invariant.as_many.0 c.loop-last.invariant.as_many.1)
     c.loop-last.invariant.so_far
 
 pub loop-last-preserved : goal.loop-last-preserved
 loop-last-preserved g c = record {
-  so_far = joined_more g.L.Link.identity (λ job out. HandsOver g.L.Link.identity g.F.ServerServiceFactory.may_serve g.F.ServerServiceFactory.may_leave g.F.ServerServiceFactory.may_init g.F.ServerServiceFactory.may_make job out) (λ all. all) _ _ _ _ _
+  so_far = joined_more g.L.Link.identity (λ job out. HandsOver g.L.Link.identity g.F.ServerServiceFactory.may_serve g.F.ServerServiceFactory.may_leave g.F.ServerServiceFactory.may_ready g.F.ServerServiceFactory.may_init g.F.ServerServiceFactory.may_make job out) (λ all. all) _ _ _ _ _
       (lines_popped _ _ _ _ _ _ c.in-Some-pop.producer c.in-Some-pop-2.consumer c.in-Some.last c.in-Some-pop.ensures.items c.in-Some-pop-2.ensures.items c.in-Some.ensures.items c.loop-last.invariant.as_many.0 c.loop-last.invariant.as_many.1)
       c.loop-last.invariant.so_far c.join_one.ensures.joined;
   as_many = (search rules, search rules);
@@ -26,7 +26,7 @@ loop-last-preserved g c = record {
 
 pub loop-last-preserved-in-Some-join_one : goal.loop-last-preserved-in-Some-join_one
 loop-last-preserved-in-Some-join_one g c = record {
-  so_far = joined_found g.L.Link.identity (λ job out. HandsOver g.L.Link.identity g.F.ServerServiceFactory.may_serve g.F.ServerServiceFactory.may_leave g.F.ServerServiceFactory.may_init g.F.ServerServiceFactory.may_make job out) (λ all. all) _ _ _ _ _ _
+  so_far = joined_found g.L.Link.identity (λ job out. HandsOver g.L.Link.identity g.F.ServerServiceFactory.may_serve g.F.ServerServiceFactory.may_leave g.F.ServerServiceFactory.may_ready g.F.ServerServiceFactory.may_init g.F.ServerServiceFactory.may_make job out) (λ all. all) _ _ _ _ _ _
       (lines_popped _ _ _ _ _ _ c.in-Some-pop.producer c.in-Some-pop-2.consumer c.in-Some.last c.in-Some-pop.ensures.items c.in-Some-pop-2.ensures.items c.in-Some.ensures.items c.loop-last.invariant.as_many.0 c.loop-last.invariant.as_many.1)
       (search rules ∙ sym (lines_length c.pop-in-Some.new.self.items c.pop-in-Some-2.new.self.items c.pop.new.self.items (search rules) (search rules))) c.loop-last.invariant.so_far c.join_one.ensures.joined c.in-Some-join_one.ensures.unstarted;
   as_many = (search rules, search rules);
@@ -34,5 +34,5 @@ loop-last-preserved-in-Some-join_one g c = record {
 
 pub returns-clause-joined : goal.returns-clause-joined
 returns-clause-joined g c =
-    joined_all g.L.Link.identity (λ job out. HandsOver g.L.Link.identity g.F.ServerServiceFactory.may_serve g.F.ServerServiceFactory.may_leave g.F.ServerServiceFactory.may_init g.F.ServerServiceFactory.may_make job out) (λ all. all) _ _ _
+    joined_all g.L.Link.identity (λ job out. HandsOver g.L.Link.identity g.F.ServerServiceFactory.may_serve g.F.ServerServiceFactory.may_leave g.F.ServerServiceFactory.may_ready g.F.ServerServiceFactory.may_init g.F.ServerServiceFactory.may_make job out) (λ all. all) _ _ _
     (lines_none _ _ _ (search rules) c.loop-last.invariant.as_many.0) c.loop-last.invariant.so_far

@@ -6,28 +6,28 @@ use Rattle.server.proofs.returning.return_all.Goals as goal
 
 pub loop-last-init : goal.loop-last-init
 loop-last-init g c = record {
-  so_far = returned_none g.L.Link.identity (λ job out. HandsOver g.L.Link.identity g.F.ServerServiceFactory.may_serve g.F.ServerServiceFactory.may_leave g.F.ServerServiceFactory.may_init g.F.ServerServiceFactory.may_make job out) (λ all. all)
+  so_far = returned_none g.L.Link.identity (λ job out. HandsOver g.L.Link.identity g.F.ServerServiceFactory.may_serve g.F.ServerServiceFactory.may_leave g.F.ServerServiceFactory.may_ready g.F.ServerServiceFactory.may_init g.F.ServerServiceFactory.may_make job out) (λ all. all)
       g.Do.Done.taken g.Do.Done.count g.Do.Done.served g.Do.Done.spare _ c.args.done.now (g.met.Do.Done.small c.args.done.now) c.requires.lines c.requires.fewer c.requires.room;
   as_many = c.requires.as_many;
 }
 
 pub return_one-requires-clause-line : goal.return_one-requires-clause-line
 return_one-requires-clause-line g c κs within =
-    returned_next g.L.Link.identity (λ job out. HandsOver g.L.Link.identity g.F.ServerServiceFactory.may_serve g.F.ServerServiceFactory.may_leave g.F.ServerServiceFactory.may_init g.F.ServerServiceFactory.may_make job out) (λ all. all)
+    returned_next g.L.Link.identity (λ job out. HandsOver g.L.Link.identity g.F.ServerServiceFactory.may_serve g.F.ServerServiceFactory.may_leave g.F.ServerServiceFactory.may_ready g.F.ServerServiceFactory.may_init g.F.ServerServiceFactory.may_make job out) (λ all. all)
     g.Do.Done.taken g.Do.Done.count g.Do.Done.served g.Do.Done.spare _ _ _ _ _ _
     (lines_popped _ _ _ _ _ _ c.in-Some-pop.producer c.in-Some-pop-2.consumer c.in-Some.last c.in-Some-pop.ensures.items c.in-Some-pop-2.ensures.items c.in-Some.ensures.items c.loop-last.invariant.as_many.0 c.loop-last.invariant.as_many.1)
     c.loop-last.invariant.so_far
 
 pub return_one-requires-clause-room : goal.return_one-requires-clause-room
 return_one-requires-clause-room g c κs within =
-    returned_room g.L.Link.identity (λ job out. HandsOver g.L.Link.identity g.F.ServerServiceFactory.may_serve g.F.ServerServiceFactory.may_leave g.F.ServerServiceFactory.may_init g.F.ServerServiceFactory.may_make job out) (λ all. all)
+    returned_room g.L.Link.identity (λ job out. HandsOver g.L.Link.identity g.F.ServerServiceFactory.may_serve g.F.ServerServiceFactory.may_leave g.F.ServerServiceFactory.may_ready g.F.ServerServiceFactory.may_init g.F.ServerServiceFactory.may_make job out) (λ all. all)
     g.Do.Done.taken g.Do.Done.count g.Do.Done.served g.Do.Done.spare _ _ _ _ _ _
     (lines_popped _ _ _ _ _ _ c.in-Some-pop.producer c.in-Some-pop-2.consumer c.in-Some.last c.in-Some-pop.ensures.items c.in-Some-pop-2.ensures.items c.in-Some.ensures.items c.loop-last.invariant.as_many.0 c.loop-last.invariant.as_many.1)
     c.loop-last.invariant.so_far
 
 pub loop-last-preserved : goal.loop-last-preserved
 loop-last-preserved g c = record {
-  so_far = returned_more g.L.Link.identity (λ job out. HandsOver g.L.Link.identity g.F.ServerServiceFactory.may_serve g.F.ServerServiceFactory.may_leave g.F.ServerServiceFactory.may_init g.F.ServerServiceFactory.may_make job out) (λ all. all)
+  so_far = returned_more g.L.Link.identity (λ job out. HandsOver g.L.Link.identity g.F.ServerServiceFactory.may_serve g.F.ServerServiceFactory.may_leave g.F.ServerServiceFactory.may_ready g.F.ServerServiceFactory.may_init g.F.ServerServiceFactory.may_make job out) (λ all. all)
       g.Do.Done.taken g.Do.Done.count g.Do.Done.served g.Do.Done.spare _ _ _ _ _ _ _
       (lines_popped _ _ _ _ _ _ c.in-Some-pop.producer c.in-Some-pop-2.consumer c.in-Some.last c.in-Some-pop.ensures.items c.in-Some-pop-2.ensures.items c.in-Some.ensures.items c.loop-last.invariant.as_many.0 c.loop-last.invariant.as_many.1)
       c.loop-last.invariant.so_far c.return_one.ensures;
@@ -36,6 +36,6 @@ loop-last-preserved g c = record {
 
 pub returns : goal.returns
 returns g c =
-    returned_all g.L.Link.identity (λ job out. HandsOver g.L.Link.identity g.F.ServerServiceFactory.may_serve g.F.ServerServiceFactory.may_leave g.F.ServerServiceFactory.may_init g.F.ServerServiceFactory.may_make job out) (λ all. all)
+    returned_all g.L.Link.identity (λ job out. HandsOver g.L.Link.identity g.F.ServerServiceFactory.may_serve g.F.ServerServiceFactory.may_leave g.F.ServerServiceFactory.may_ready g.F.ServerServiceFactory.may_init g.F.ServerServiceFactory.may_make job out) (λ all. all)
     g.Do.Done.taken g.Do.Done.count g.Do.Done.served g.Do.Done.spare _ _ _ _
     (lines_none _ _ _ (search rules) c.loop-last.invariant.as_many.0) c.loop-last.invariant.so_far

@@ -9,4 +9,4 @@ returns-in-Ok-start-clause-line g c =
     c.new-job.result c.in-Ok.taken c.in-Ok-new.noted
     c.in-Ok-start.ensures.job c.new-job.ensures.parcels c.new-job.ensures.notes c.new-job.ensures.factory c.new-job.ensures.listeners
     c.in-Ok.ensures.pair c.in-Ok.ensures.producer.0 c.in-Ok.ensures.consumer.0 c.in-Ok-new.ensures.pair c.in-Ok-new.ensures.producer.0 c.in-Ok-new.ensures.consumer.0
-    (c.requires.clones c.in-Ok-clone.copy (search rules))
+    c.requires.may_start.never_errs (c.requires.may_start.clones c.in-Ok-clone.copy (search rules))
