@@ -11,6 +11,7 @@ use Rattle.service_core.specs.declared.ended.How.TheVariants as how
 use Rattle.service_core.specs.declared.link.Link.{Ghosts as LinkOf}
 use Rattle.script_service.specs.Serving.{LeavesScript, ServesScript}
 use Rattle.script_service.specs.Sites.{Site}
+use Rattle.server.specs.Starting.{RoseBy, Started}
 use Rattle.server_bind.specs.Limiting.{until}
 use Rattle.server_bind.specs.Stock.{IsSteady, NeverFails}
 use Rattle.server_run.specs.Delivery.{ComesBack, Delivers, IsServedFrom, left_at, once_below, rise}
@@ -18,13 +19,13 @@ use Rattle.server_run.specs.Done.{counted, served_count}
 use Rattle.server_run.specs.Listener.{Mark, gives}
 use Rattle.server_run.specs.Outcome.{is_stopped, outcome_of}
 use Rattle.server_run.specs.Report.{Tells, is_stop}
-use Rattle.server_run.specs.Serving.{HasCause}
+use Rattle.server_run.specs.Serving.{HasCause, IsLostBy}
 use Rattle.server_run.specs.declared.entry.Entry.{Entry}
 use Rattle.server_run.specs.declared.outcome.Outcome.{Outcome}
 use Rattle.server_run.specs.declared.outcome.Outcome.TheVariants.{Served, Memory as NoMemory}
 use Rattle.server_run.specs.declared.outcome.Outcome.TheVariants as outcome
 use Rattle.server_run.specs.declared.report.End.{End}
-use Rattle.server_run.specs.declared.report.End.TheVariants.{Drained, Stopped, Memory as NoRoom}
+use Rattle.server_run.specs.declared.report.End.TheVariants.{Drained, Stopped, NoWorkers, Memory as NoRoom}
 use Rattle.server_run.specs.declared.report.Report.{Report}
 use Rattle.listening.proofs.Counting.{as_many, few as few_entries, few_served, first_alone}
 use Rattle.listening.proofs.Ending.{all_came, drained_ended}
@@ -47,14 +48,19 @@ module _ {L : Type 0} (g : LinkOf L) (law : (link : L) → FailsAtMost (g.identi
   by_how how.Upgraded ends = absurd (not_upgraded (ends.upgraded refl))
   by_how how.Memory ends = inr refl
 
-  served_or_memory : (outcome : Outcome) → (is_stopped outcome ≡ true → ⊥) → ComesBack (ServesScript listen_site g) (LeavesScript listen_site g) link back outcome → (outcome ≡ Served) ⊎ (outcome ≡ NoMemory)
-  served_or_memory end going (inl ended) = rw ended.1 (by_how ended.0 ended.2)
-  served_or_memory outcome.Served going (inr held) = absurd held
-  served_or_memory outcome.ReadFault going (inr held) = absurd held
-  served_or_memory outcome.WriteFault going (inr held) = absurd held
-  served_or_memory outcome.Upgraded going (inr held) = absurd held
-  served_or_memory (outcome.Stopped forced) going (inr held) = absurd (going refl)
-  served_or_memory outcome.Memory going (inr held) = inr refl
+  -- in a run that nothing stopped, and whose workers don't end by faults
+  module _ (workers : ℕ) (may_fault : Type 0) (sound : may_fault → ⊥) (end : End) (unstopped : is_stop end ≡ false) (staffed : end ≢ NoWorkers) where
+    served_or_memory : (outcome : Outcome) → (is_stopped outcome ≡ true → is_stop end ≡ true) → IsLostBy workers may_fault end outcome
+        → ComesBack (ServesScript listen_site g) (LeavesScript listen_site g) link back outcome → (outcome ≡ Served) ⊎ (outcome ≡ NoMemory)
+    served_or_memory out stopped lost (inl ended) = rw ended.1 (by_how ended.0 ended.2)
+    served_or_memory outcome.Served stopped lost (inr held) = absurd held
+    served_or_memory outcome.ReadFault stopped lost (inr held) = absurd held
+    served_or_memory outcome.WriteFault stopped lost (inr held) = absurd held
+    served_or_memory outcome.Upgraded stopped lost (inr held) = absurd held
+    served_or_memory (outcome.Lost (Some worker)) stopped lost (inr held) = absurd (sound lost.1)
+    served_or_memory (outcome.Lost None) stopped lost (inr held) = absurd (staffed lost)
+    served_or_memory (outcome.Stopped forced) stopped lost (inr held) = absurd (let stop = stopped refl in cc)
+    served_or_memory outcome.Memory stopped lost (inr held) = inr refl
 
 module _ {Li W L : Type 0} (g : LinkOf L) (law : (link : L) → FailsAtMost (g.identity link) (g.read_faults link) (g.write_faults link))
     (left : Li → Option (List L)) (rest : Li → Option (List Mark)) (listener : Li) (limit : ℕ)
@@ -63,7 +69,8 @@ module _ {Li W L : Type 0} (g : LinkOf L) (law : (link : L) → FailsAtMost (g.i
     (at_end : IsTrue (ended new) → IfSome (left_w new) (λ links. links ≡ [])) (limited : given new - given old ≤ limit) (small : limit < 2 ^ 48)
     (entries : List (Entry L)) (report : Report) (retry_limit : ℕ) (retries : retry_limit ≢ 0)
     (delivers : Delivers given left_w g.identity (λ token. ServesScript listen_site g) (λ token. LeavesScript listen_site g) (old ∷ []) (new ∷ []) entries)
-    (told : Tells rest_w ended faults retry_limit (old ∷ []) (new ∷ []) report) (unstopped : is_stop report.end ≡ false) (founded : All (HasCause report.end) entries)
+    (told : Tells rest_w ended faults retry_limit (old ∷ []) (new ∷ []) report) (unstopped : is_stop report.end ≡ false)
+    (workers : ℕ) (may_fault : Type 0) (faulted : report.end ≡ NoWorkers → may_fault) (founded : All (HasCause workers may_fault report.end) entries) (sound : may_fault → ⊥)
     (heard : Heard) (connections : heard.connections ≡ counted (length entries)) (served : heard.served ≡ counted (served_count entries)) (end_is : heard.end ≡ report.end) where
   abbrev rises : ℕ → ℕ
   rises token = rise given (old ∷ []) (new ∷ []) token
@@ -102,12 +109,12 @@ module _ {Li W L : Type 0} (g : LinkOf L) (law : (link : L) → FailsAtMost (g.i
     outcomes : All (λ entry. (entry.outcome ≡ Served) ⊎ (entry.outcome ≡ NoMemory)) entries
     outcomes k d inside = of _ (from_all k d inside) (founded k d inside)
       where
-        of : (e : Entry L) → IsFrom (Some (take limit all)) e → HasCause report.end e → (e.outcome ≡ Served) ⊎ (e.outcome ≡ NoMemory)
+        of : (e : Entry L) → IsFrom (Some (take limit all)) e → HasCause workers may_fault report.end e → (e.outcome ≡ Served) ⊎ (e.outcome ≡ NoMemory)
         of e from cause =
             let within = slice_get_within (take limit all) e.place from.link from.in_place in
             let is = get_or_from_slice_get (take limit all) e.place from.link from.link from.in_place in
             let goes_on = subst (λ (l : L). NeverFails (g.identity l)) is (All-take (λ link. NeverFails (g.identity link)) limit all never e.place from.link within) in
-            served_or_memory g law from.link e.link goes_on e.outcome (λ stopped. (let stop = cause stopped in absurd (cc))) from.comes_back
+            served_or_memory g law from.link e.link goes_on workers may_fault sound report.end unstopped (λ none. sound (faulted none)) e.outcome cause.stopped cause.lost from.comes_back
 
     no_more : length entries ≤ most
     no_more = few_entries rises entries delivers.places no_other most (λ k d inside. below _ (from_all k d inside))
@@ -126,6 +133,7 @@ module _ {Li W L : Type 0} (g : LinkOf L) (law : (link : L) → FailsAtMost (g.i
 
     by_end : (end : End) → report.end ≡ end → IsWhole most heard ⊎ LacksMemory most entries heard
     by_end (Stopped graceful) stopped = absurd (let none = subst (λ (e : End). is_stop e ≡ false) stopped unstopped in cc)
+    by_end NoWorkers none = absurd (sound (faulted none))
     by_end NoRoom room = inr (record { few = let n = no_more in let c = connections_are in omega (arith, n, c); short = inr (end_is ∙ room); outcomes = outcomes })
     by_end Drained drained = elim (dec_le most (served_count entries)) [
       | yes whole ↦
@@ -159,6 +167,14 @@ module _ {Li W L : Type 0} (g : LinkOf L) (law : (link : L) → FailsAtMost (g.i
     steady = of_steady (left listener) refl;
   }
 
+-- no more workers were started where none may end by a fault
+pub rose_by : (may_fault : Type 0) (n before now : ℕ) → Started may_fault n before now → (may_fault → ⊥) → RoseBy n before now
+rose_by may_fault n before now started sound = record { at_least = started.at_least; at_most = few started.at_most }
+  where
+    few : (now ≤ before + n) ⊎ may_fault → now ≤ before + n
+    few (inl most) = most
+    few (inr fault) = absurd (sound fault)
+
 -- a new listener with a limit
 module _ {Li : Type 0} (inner listener : Li) (is : inner ≡ listener) (remaining limit : ℕ) (as_many : remaining ≡ limit) where
   pub left_of : {L : Type 0} (left : Li → Option (List L)) (ended : Bool) → ended ≡ false → option_map (take (if ended then 0 else remaining)) (left inner) ≡ option_map (take limit) (left listener)
@@ -187,14 +203,15 @@ module _ {Li W L : Type 0} (g : LinkOf L) (law : (link : L) → FailsAtMost (g.i
     (entries : List (Entry L)) (report : Report) (retry_limit : ℕ) (retries : retry_limit ≡ 8) (site : Site) (site_is : site ≡ listen_site) where
   pub hears_of : (olds news : List W) → olds ≡ old ∷ [] → length news ≡ length olds
       → Delivers given left_w g.identity (λ token. ServesScript site g) (λ token. LeavesScript site g) olds news entries
-      → Tells rest_w ended faults retry_limit olds news report → is_stop report.end ≡ false → All (HasCause report.end) entries
+      → Tells rest_w ended faults retry_limit olds news report → is_stop report.end ≡ false
+      → (workers : ℕ) (may_fault : Type 0) → (report.end ≡ NoWorkers → may_fault) → All (HasCause workers may_fault report.end) entries → (may_fault → ⊥)
       → (heard : Heard) (connections served : ℕ) → connections ≡ 0 → served ≡ 0 → heard.connections ≡ counted (connections + length entries)
       → heard.served ≡ counted (served + served_count entries) → heard.end ≡ report.end → Hears left rest g limit listener heard
-  hears_of olds [] is same delivers told unstopped founded heard c s no_c no_s connections served end_is = let one = ap length is in absurd (omega (arith, same, one))
-  hears_of olds (new ∷ other ∷ more) is same delivers told unstopped founded heard c s no_c no_s connections served end_is = let one = ap length is in absurd (omega (arith, same, one))
-  hears_of olds (new ∷ []) is same delivers told unstopped founded heard c s no_c no_s connections served end_is =
+  hears_of olds [] is same delivers told unstopped workers may_fault faulted founded sound heard c s no_c no_s connections served end_is = let one = ap length is in absurd (omega (arith, same, one))
+  hears_of olds (new ∷ other ∷ more) is same delivers told unstopped workers may_fault faulted founded sound heard c s no_c no_s connections served end_is = let one = ap length is in absurd (omega (arith, same, one))
+  hears_of olds (new ∷ []) is same delivers told unstopped workers may_fault faulted founded sound heard c s no_c no_s connections served end_is =
       hears g law left rest listener limit given faults ended left_w rest_w old new left_is rest_is (at_end new) (limited new) small entries report retry_limit (λ none. (let eight = retries in omega (arith, none, eight)))
       (subst (λ (t : Site). Delivers given left_w g.identity (λ token. ServesScript t g) (λ token. LeavesScript t g) (old ∷ []) (new ∷ []) entries) site_is
       (subst (λ (ws : List W). Delivers given left_w g.identity (λ token. ServesScript site g) (λ token. LeavesScript site g) ws (new ∷ []) entries) is delivers))
-      (subst (λ (ws : List W). Tells rest_w ended faults retry_limit ws (new ∷ []) report) is told) unstopped founded
+      (subst (λ (ws : List W). Tells rest_w ended faults retry_limit ws (new ∷ []) report) is told) unstopped workers may_fault faulted founded sound
       heard (connections ∙ ap counted (none_more c (length entries) no_c)) (served ∙ ap counted (none_more s (served_count entries) no_s)) end_is

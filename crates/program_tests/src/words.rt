@@ -155,14 +155,16 @@ fn is_summed_up(
 #[test]
 fn a_short_summary_has_three_lines(rt: HostRuntime) -> Result<(), Fail> {
     let alloc = rt.alloc();
-    let (some, none) = (
+    let (some, few, none) = (
         b"connections 2\nserved 1\nend drained\n".as_slice(),
+        b"connections 3\nserved 2\nend no-workers\n".as_slice(),
         b"connections 0\nserved 0\nend memory\n".as_slice(),
     );
     hold(
         &rt,
         &[
             is_summed_up(alloc, (2, 1), End::Drained, some),
+            is_summed_up(alloc, (3, 2), End::NoWorkers, few),
             is_summed_up(alloc, (0, 0), End::Memory, none),
         ],
     )

@@ -15,7 +15,7 @@ use Rattle.server_run.specs.Report.{is_stop}
 use Rattle.server_run.specs.declared.outcome.Outcome.{Outcome}
 use Rattle.server_run.specs.declared.outcome.Outcome.TheVariants as outcome
 use Rattle.server_run.specs.declared.report.End.{End}
-use Rattle.server_run.specs.declared.report.End.TheVariants.{Drained, Stopped, Memory as NoRoom}
+use Rattle.server_run.specs.declared.report.End.TheVariants.{Drained, Stopped, NoWorkers, Memory as NoRoom}
 use Rattle.server_run.specs.declared.report.ListenerState.{ListenerState}
 use Rattle.server_run.specs.declared.report.ListenerState.TheVariants.{Ended, Faulted, Open}
 use Rattle.replaying.specs.Reported.{AreTelling, AreTold, GoesOn, IsPlain, IsTelling, IsUntroubled, Shows, ShowsMemory, answers_to, is_failure, report_text, wholly_told}
@@ -53,6 +53,7 @@ module _ (site : Site) (upgrades : site.echoes_upgrades ≡ false) where
   served_or_memory planned goes outcome.ReadFault written shows = absurd (none_fails _ goes.reads shows.0)
   served_or_memory planned goes outcome.WriteFault written shows = absurd (none_fails _ goes.writes shows.0)
   served_or_memory planned goes outcome.Upgraded written shows = absurd (not_both upgrades shows.0)
+  served_or_memory planned goes (outcome.Lost worker) written shows = absurd shows
   served_or_memory planned goes (outcome.Stopped forced) written shows = absurd shows
   served_or_memory planned goes outcome.Memory written shows = inl refl
 
@@ -124,12 +125,13 @@ not_drained : {end : End} → end ≡ Drained → end ≡ NoRoom → ⊥
 not_drained d m = cc
 
 -- the report of a plain script, unless memory ran out
-pub by_plain : (plan : Plan) (retry : plan.retry_limit ≢ 0) (tellings : List Telling) (end : End) (text : List ℕ) → text ≡ text_of tellings end → is_stop end ≡ false
+pub by_plain : (plan : Plan) (retry : plan.retry_limit ≢ 0) (tellings : List Telling) (end : End) (text : List ℕ) → text ≡ text_of tellings end → is_stop end ≡ false → end ≢ NoWorkers
     → AreTelling (site_of plan) plan.retry_limit plan.listeners tellings → All (λ (telling : Telling). telling.1 ≡ Open → end ≡ NoRoom) tellings
     → IsPlain plan → (text ≡ report_text plan) ⊎ ShowsMemory tellings end
-by_plain plan retry tellings (Stopped graceful) text is unstopped are opens plain = absurd (cc)
-by_plain plan retry tellings NoRoom text is unstopped are opens plain = inr (inl refl)
-by_plain plan retry tellings Drained text is unstopped are opens plain =
+by_plain plan retry tellings (Stopped graceful) text is unstopped staffed are opens plain = absurd (cc)
+by_plain plan retry tellings NoWorkers text is unstopped staffed are opens plain = absurd (staffed refl)
+by_plain plan retry tellings NoRoom text is unstopped staffed are opens plain = inr (inl refl)
+by_plain plan retry tellings Drained text is unstopped staffed are opens plain =
     elim (all_wholly (site_of plan) plain.upgrades plan.retry_limit retry plan.listeners tellings plain.goes_on are (λ k d within at. not_drained refl (opens k d within at))) [
       | inl memory ↦ inr (inr memory)
       | inr all ↦ inl (is ∙ ap (λ (ts : List Telling). text_of ts Drained) all)

@@ -19,7 +19,7 @@ use Rattle.server_run.specs.declared.memory_link.MemoryLink.{MemoryLink}
 use Rattle.server_run.specs.declared.memory_listener.MemoryListener.{MemoryListener}
 use Rattle.server_run.specs.declared.outcome.Outcome.TheVariants as outcome
 use Rattle.server_run.specs.declared.report.End.{End}
-use Rattle.server_run.specs.declared.report.End.TheVariants.{Drained, Stopped, Memory as NoRoom}
+use Rattle.server_run.specs.declared.report.End.TheVariants.{Drained, Stopped, NoWorkers, Memory as NoRoom}
 use Rattle.server_run.specs.declared.report.ListenerState.{ListenerState}
 use Rattle.server_run.specs.declared.report.ListenerState.TheVariants.{Open}
 use Rattle.server_run.specs.declared.report.Report.{Report}
@@ -84,12 +84,12 @@ module _ (count seed : ℕ) (entries : List (Entry MemoryLink)) (report : Report
 
   telling : (s : ListenerState) × (report.listeners.items ≡ s ∷ []) × IsTelling site plan.retry_limit (listener_of count seed) (map told_by (entries_of 0 ordered), s)
   telling = one_telling site plan.retry_limit (listener_of count seed) ordered report.listeners.items
-      (are_telling ghosts (λ link. refl) (λ link. (few_reads link, few_writes link)) plan runs.faults_of entries report runs.old runs.new text_of runs.offer runs.same_count runs.delivers runs.told printed runs.unstopped runs.outcomes)
+      (are_telling ghosts (λ link. refl) (λ link. (few_reads link, few_writes link)) plan runs.faults_of entries report runs.old runs.new text_of runs.offer runs.same_count runs.delivers runs.told printed runs.unstopped runs.staffed runs.undisturbed)
 
   -- it is open only where memory ran out
   open_state : telling.0 ≡ Open → report.end ≡ NoRoom
   open_state is =
-      let all = open_by ghosts (λ link. refl) (λ link. (few_reads link, few_writes link)) plan runs.faults_of entries report runs.old runs.new text_of runs.offer runs.same_count runs.delivers runs.told printed runs.unstopped runs.outcomes in
+      let all = open_by ghosts (λ link. refl) (λ link. (few_reads link, few_writes link)) plan runs.faults_of entries report runs.old runs.new text_of runs.offer runs.same_count runs.delivers runs.told printed runs.unstopped runs.staffed runs.undisturbed in
       let first = subst (λ (states : List ListenerState). All (λ (t : _). t.1 ≡ Open → report.end ≡ NoRoom) (tellings_of 0 states ordered)) telling.1 all in
       first 0 (map told_by (entries_of 0 ordered), telling.0) (omega arith) is
 
@@ -143,6 +143,7 @@ module _ (count seed : ℕ) (entries : List (Entry MemoryLink)) (report : Report
 
     by_end : (end : End) → report.end ≡ end → IsSummaryOf count seed text
     by_end (Stopped graceful) stopped = absurd (let none = subst (λ (e : End). is_stop e ≡ false) stopped runs.unstopped in cc)
+    by_end NoWorkers none = absurd (runs.staffed none)
     by_end NoRoom room = short_by (inr room)
     by_end Drained drained =
         let ended = state_is site refl plan.retry_limit runs.retries (listener_of count seed) (told, telling.0) (untroubled count seed) telling.2 (λ opens. not_both drained (open_state opens)) in

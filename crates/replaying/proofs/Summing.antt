@@ -30,6 +30,7 @@ one_at_most outcome.Served = omega arith
 one_at_most outcome.ReadFault = omega arith
 one_at_most outcome.WriteFault = omega arith
 one_at_most outcome.Upgraded = omega arith
+one_at_most (outcome.Lost worker) = omega arith
 one_at_most (outcome.Stopped forced) = omega arith
 one_at_most outcome.Memory = omega arith
 
@@ -66,6 +67,7 @@ module _ (site : Site) (upgrades : site.echoes_upgrades ≡ false) where
     where
       not_both : site.echoes_upgrades ≡ true → ⊥
       not_both yes_it = cc
+  few_bytes_of planned goes (outcome.Lost worker) written shows = absurd shows
   few_bytes_of planned goes (outcome.Stopped forced) written shows = absurd shows
   few_bytes_of planned goes outcome.Memory written (inl front) = let all = simp length-append at (ap length front.is) in omega (arith, all)
   few_bytes_of planned goes outcome.Memory written (inr beyond) =

@@ -17,9 +17,8 @@ use Rattle.http1_dispatcher.specs.Ending.{GrewByPrefix, WroteBeyond, WroteSome}
 use Rattle.server_run.specs.Delivery.{ComesBack, Delivers, IsServedFrom, left_at, rest_at, rise}
 use Rattle.server_run.specs.Listener.{Mark, fails, gives}
 use Rattle.server_run.specs.Memory.{links, marks}
-use Rattle.server_run.specs.Outcome.{is_stopped, outcome_of}
+use Rattle.server_run.specs.Outcome.{is_lost, is_stopped, outcome_of}
 use Rattle.server_run.specs.Report.{Tells, is_stop}
-use Rattle.server_run.specs.Serving.{HasCause}
 use Rattle.server_run.specs.Steps.{is_read_fail, is_write_fail}
 use Rattle.server_run.specs.declared.entry.Entry.{Entry}
 use Rattle.server_run.specs.declared.listener_step.ListenerStep.{ListenerStep}
@@ -29,7 +28,7 @@ use Rattle.server_run.specs.declared.memory_listener.MemoryListener.{MemoryListe
 use Rattle.server_run.specs.declared.outcome.Outcome.{Outcome}
 use Rattle.server_run.specs.declared.outcome.Outcome.TheVariants as outcome
 use Rattle.server_run.specs.declared.report.End.{End}
-use Rattle.server_run.specs.declared.report.End.TheVariants.{Drained, Stopped, Memory as NoRoom}
+use Rattle.server_run.specs.declared.report.End.TheVariants.{Drained, Stopped, NoWorkers, Memory as NoRoom}
 use Rattle.server_run.specs.declared.report.ListenerState.{ListenerState}
 use Rattle.server_run.specs.declared.report.ListenerState.TheVariants.{Ended, Faulted, Open}
 use Rattle.server_run.specs.declared.report.Report.{Report}
@@ -43,7 +42,7 @@ use Rattle.script.specs.Script.{Plan}
 use Rattle.script_service.specs.Serving.{LeavesScript, ServesScript}
 use Rattle.script_service.specs.Sites.{Site, answers_of, site_of}
 use Rattle.replaying.proofs.Plainly.{by_plain}
-use Rattle.replaying.specs.Running.{ended_of, given_of, left_of, rest_of}
+use Rattle.replaying.specs.Running.{IsUndisturbed, ended_of, given_of, left_of, rest_of}
 use Rattle.replaying.specs.Reported.{AreTelling, AreTold, GaveUp, IsBeyond, IsFront, IsReportOf, IsTelling, Shows, answers_to, is_failure}
 
 some_rose : (before after most : ℕ) → Rose before after → after ≤ most → 1 ≤ most
@@ -98,13 +97,15 @@ module _ (site : Site) (g : LinkOf MemoryLink) (planned : Planned) (writes : (li
   by_how how.Memory ends =
       in_memory (of_all (λ peer bytes. WroteSome g (answers_of site peer) link back bytes ⊎ WroteBeyond g (answers_of site peer) link back bytes) ends.wrote)
 
-  pub by_outcome : (out : Outcome) → (is_stopped out ≡ true → ⊥) → ComesBack (ServesScript site g) (LeavesScript site g) link back out → Shows site planned out back.written
+  pub by_outcome : (out : Outcome) → (is_stopped out ≡ false) × (is_lost out ≡ false) → ComesBack (ServesScript site g) (LeavesScript site g) link back out
+      → Shows site planned out back.written
   by_outcome out going (inl ended) = rw ended.1 (by_how ended.0 ended.2)
   by_outcome outcome.Served going (inr left) = absurd left
   by_outcome outcome.ReadFault going (inr left) = absurd left
   by_outcome outcome.WriteFault going (inr left) = absurd left
   by_outcome outcome.Upgraded going (inr left) = absurd left
-  by_outcome (outcome.Stopped forced) going (inr left) = absurd (going refl)
+  by_outcome (outcome.Lost worker) going (inr left) = absurd (let kept = going.1 in cc)
+  by_outcome (outcome.Stopped forced) going (inr left) = absurd (let unstopped = going.0 in cc)
   by_outcome outcome.Memory going (inr left) = by_how how.Memory left
 
 -- ---- elements of lists, one beside the other
@@ -199,10 +200,11 @@ gifts (step.NotYet ∷ steps) = gifts steps
 gifts (step.Skip ∷ steps) = gifts steps
 gifts (step.Fail ∷ steps) = let more = gifts steps in let first = counted (marks steps) fails in omega (arith, more, first)
 
-end_cases : (end : End) → is_stop end ≡ false → (end ≡ Drained) ⊎ (end ≡ NoRoom)
-end_cases Drained unstopped = inl refl
-end_cases (Stopped graceful) unstopped = absurd (cc)
-end_cases NoRoom unstopped = inr refl
+end_cases : (end : End) → is_stop end ≡ false → end ≢ NoWorkers → (end ≡ Drained) ⊎ (end ≡ NoRoom)
+end_cases Drained unstopped staffed = inl refl
+end_cases (Stopped graceful) unstopped staffed = absurd (cc)
+end_cases NoWorkers unstopped staffed = absurd (staffed refl)
+end_cases NoRoom unstopped staffed = inr refl
 
 none_left : (n : ℕ) (xs : List MemoryLink) → drop n xs ≡ [] → length xs ≤ n
 none_left n xs none = let len = length-drop n xs in let zero_len = ap length none in omega (arith, len, zero_len)
@@ -218,7 +220,7 @@ module _ (g : LinkOf MemoryLink) (writes : (link : MemoryLink) → g.written lin
     (offer : AllOffer g plan.listeners old) (same : length new ≡ length old)
     (delivers : Delivers given_of left_of g.identity (λ token. ServesScript (site_of plan) g) (λ token. LeavesScript (site_of plan) g) old new entries)
     (told : Tells rest_of ended_of faults_of plan.retry_limit old new report) (printed : IsText entries report text)
-    (unstopped : is_stop report.end ≡ false) (outcomes : All (HasCause report.end) entries) where
+    (unstopped : is_stop report.end ≡ false) (staffed : report.end ≢ NoWorkers) (undisturbed : All IsUndisturbed entries) where
   abbrev served_by : Entry MemoryLink → Type 0
   served_by e = IsServedFrom g.identity (λ token. ServesScript (site_of plan) g) (λ token. LeavesScript (site_of plan) g) (left_at left_of old e.token) e
 
@@ -238,12 +240,11 @@ module _ (g : LinkOf MemoryLink) (writes : (link : MemoryLink) → g.written lin
   served token i e at =
       subst served_by (get_or_from_slice_get (mine token) i e e at) (placing.All-entries_of printed served_by delivers.links token i e (slice_get_within (mine token) i e at))
 
-  -- none was stopped
-  going : (token i : ℕ) (e : Entry MemoryLink) → slice_get (mine token) i ≡ Some e → is_stopped e.outcome ≡ true → ⊥
-  going token i e at stopped =
-      let founded : HasCause report.end e =
-      subst (HasCause report.end) (get_or_from_slice_get (mine token) i e e at) (placing.All-entries_of printed (HasCause report.end) outcomes token i e (slice_get_within (mine token) i e at)) in
-      let stop = founded stopped in absurd (cc)
+  -- none was stopped or lost
+  going : (token i : ℕ) (e : Entry MemoryLink) → slice_get (mine token) i ≡ Some e → IsUndisturbed e
+  going token i e at =
+      subst IsUndisturbed (get_or_from_slice_get (mine token) i e e at)
+      (placing.All-entries_of printed IsUndisturbed undisturbed token i e (slice_get_within (mine token) i e at))
 
   module _ (token : ℕ) (l : Listening) (o n : MemoryListener) (s : ListenerState) (old_at : slice_get old token ≡ Some o) (new_at : slice_get new token ≡ Some n)
       (offers : Offers g l o) (state_at : slice_get report.listeners.items token ≡ Some s) where
@@ -340,7 +341,7 @@ module _ (g : LinkOf MemoryLink) (writes : (link : MemoryLink) → g.written lin
   open_at : (i : ℕ) (t : Telling) → slice_get tellings i ≡ Some t → t.1 ≡ Open → report.end ≡ NoRoom
   open_at i t at opens =
       let found = at_place i t at in
-      elim (end_cases report.end unstopped) [
+      elim (end_cases report.end unstopped staffed) [
         | inl drained ↦ absurd (told.state_open i (found.1 ∙ ap Some (sym (ap (λ (x : Telling). x.1) found.2) ∙ opens)) drained)
         | inr room ↦ room
       ]
@@ -370,5 +371,5 @@ module _ (g : LinkOf MemoryLink) (writes : (link : MemoryLink) → g.written lin
         is = is;
         told = are_telling;
         open_by = open_by;
-        plain = λ p. by_plain plan some tellings report.end text is unstopped are_telling open_by p;
+        plain = λ p. by_plain plan some tellings report.end text is unstopped staffed are_telling open_by p;
       }

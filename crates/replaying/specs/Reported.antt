@@ -6,7 +6,7 @@ use Rattle.http1_grammar.specs.Head.{Head}
 use Rattle.server_run.specs.Listener.{Mark, fails, gives, in_a_row}
 use Rattle.server_run.specs.Steps.{is_read_fail, is_write_fail}
 use Rattle.server_run.specs.declared.outcome.Outcome.{Outcome}
-use Rattle.server_run.specs.declared.outcome.Outcome.TheVariants.{Served, ReadFault, WriteFault, Upgraded, Stopped, Memory}
+use Rattle.server_run.specs.declared.outcome.Outcome.TheVariants.{Served, ReadFault, WriteFault, Upgraded, Lost, Stopped, Memory}
 use Rattle.server_run.specs.declared.report.End.{End}
 use Rattle.server_run.specs.declared.report.End.TheVariants.{Drained, Memory as NoRoom}
 use Rattle.server_run.specs.declared.report.ListenerState.TheVariants.{Ended, Faulted, Open}
@@ -68,13 +68,14 @@ pub record IsBeyond (answers : Answers) (written : List ℕ) : Type 0 where
   pub more : List ℕ
   pub is : written ≡ answers.0 ++ more
 
--- what was written on a connection, by how it ended: a read or a write fails only by a line that says so, and none is stopped
+-- what was written on a connection, by how it ended: a read or a write fails only by a line that says so, and none is stopped or lost
 abbrev pub Shows : Site → Planned → Outcome → List ℕ → Type 0
 Shows site planned Served written = written ≡ (answers_to site planned).0
 Shows site planned ReadFault written =
     (1 ≤ count_by is_read_fail planned.reads) × ((taken : ℕ) × (written ≡ (answers_of site planned.peer (take taken (held_of planned))).0))
 Shows site planned WriteFault written = (1 ≤ count_by is_write_fail planned.writes) × IsFront (answers_to site planned) written
 Shows site planned Upgraded written = (site.echoes_upgrades ≡ true) × IsBeyond (answers_to site planned) written
+Shows site planned (Lost worker) written = ⊥
 Shows site planned (Stopped forced) written = ⊥
 Shows site planned Memory written = IsFront (answers_to site planned) written ⊎ IsBeyond (answers_to site planned) written
 

@@ -3,11 +3,11 @@ use Rattle.std.specs.Prelude.{◌≡◌, ℕ, zero, suc, ◌+◌, ◌/◌, ◌%�
 use Rattle.std.specs.List.{filter, flat_map}
 use Rattle.server_run.specs.declared.entry.Entry.{Entry}
 use Rattle.server_run.specs.declared.outcome.Outcome.{Outcome}
-use Rattle.server_run.specs.declared.outcome.Outcome.TheVariants.{Served, ReadFault, WriteFault, Upgraded, Stopped, Memory}
+use Rattle.server_run.specs.declared.outcome.Outcome.TheVariants.{Served, ReadFault, WriteFault, Upgraded, Lost, Stopped, Memory}
 use Rattle.server_run.specs.declared.memory_link.MemoryLink.{MemoryLink}
 use Rattle.server_run.specs.declared.report.Report.{Report}
 use Rattle.server_run.specs.declared.report.End.{End}
-use Rattle.server_run.specs.declared.report.End.TheVariants.{Drained, Stopped as StoppedBy, Memory as NoRoom}
+use Rattle.server_run.specs.declared.report.End.TheVariants.{Drained, Stopped as StoppedBy, NoWorkers, Memory as NoRoom}
 use Rattle.server_run.specs.declared.report.ListenerState.{ListenerState}
 use Rattle.server_run.specs.declared.report.ListenerState.TheVariants.{Ended, Faulted, Open}
 use Rattle.report.specs.Peers.{hex_letter}
@@ -25,6 +25,7 @@ outcome_word Served = codes "served"
 outcome_word ReadFault = codes "read-fault"
 outcome_word WriteFault = codes "write-fault"
 outcome_word Upgraded = codes "upgraded"
+outcome_word (Lost worker) = codes "lost"
 outcome_word (Stopped false) = codes "stopped"
 outcome_word (Stopped true) = codes "stopped-forced"
 outcome_word Memory = codes "memory"
@@ -55,6 +56,7 @@ abbrev pub end_line : End → List ℕ
 end_line Drained = codes "end drained" ++ 10 ∷ []
 end_line (StoppedBy true) = codes "end stopped graceful" ++ 10 ∷ []
 end_line (StoppedBy false) = codes "end stopped forced" ++ 10 ∷ []
+end_line NoWorkers = codes "end no-workers" ++ 10 ∷ []
 end_line NoRoom = codes "end memory" ++ 10 ∷ []
 
 -- the entries of this listener, in the order of these

@@ -75,6 +75,7 @@ fn outcome_word(outcome: Outcome) -> &'static str
         Outcome::ReadFault => "read-fault",
         Outcome::WriteFault => "write-fault",
         Outcome::Upgraded => "upgraded",
+        Outcome::Lost { .. } => "lost",
         Outcome::Stopped { forced: false } => "stopped",
         Outcome::Stopped { forced: true } => "stopped-forced",
         Outcome::Memory => "memory",

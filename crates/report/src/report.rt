@@ -30,6 +30,7 @@ pub(crate) fn end_line(end: End) -> &'static [u8]
         End::Drained => b"end drained\n",
         End::Stopped { graceful: true } => b"end stopped graceful\n",
         End::Stopped { graceful: false } => b"end stopped forced\n",
+        End::NoWorkers => b"end no-workers\n",
         End::Memory => b"end memory\n",
     }
 }

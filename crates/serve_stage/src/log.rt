@@ -55,6 +55,10 @@ impl Log {
             Outcome::ReadFault => self.word(" unread"),
             Outcome::WriteFault => self.word(" unwritten"),
             Outcome::Upgraded => self.word(" upgraded"),
+            Outcome::Lost {
+                worker: Some(worker),
+            } => self.before(" lost ", worker as u64),
+            Outcome::Lost { worker: None } => self.word(" lost"),
             Outcome::Stopped { forced: false } => self.word(" stopped"),
             Outcome::Stopped { forced: true } => self.word(" stopped forced"),
             Outcome::Memory => self.lack_memory(),

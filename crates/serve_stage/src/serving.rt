@@ -78,6 +78,7 @@ fn tell_report(log: &mut Log, entries: &[Entry<MemoryLink>], report: &Report) {
         End::Drained => log.word(", drained"),
         End::Stopped { graceful: true } => log.word(", stopped"),
         End::Stopped { graceful: false } => log.word(", stopped by force"),
+        End::NoWorkers => log.word(", no workers"),
         End::Memory => log.lack_memory(),
     }
 }

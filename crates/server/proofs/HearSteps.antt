@@ -1,15 +1,22 @@
 -- Commands of many turns, and what they come to.
-use Rattle.std.proofs.Common.{◌≡◌, ◌≤◌, ◌++◌, ◌∷◌, [], ℕ, ◌+◌, ◌*◌, Bool, true, false, cond, List, Option, None, Some, IfSome, refl, sym, ◌∙◌, ap, arith, subst, append_assoc, inl, inr}
+use Rattle.std.proofs.Common.{◌≡◌, ◌≤◌, ◌<◌, ◌++◌, ◌∷◌, [], ℕ, zero, suc, map, ◌+◌, ◌*◌, Bool, true, false, cond, List, Option, None, Some, IfSome, refl, sym, ◌∙◌, ap, arith, subst, append_assoc, inl, inr}
 use Rattle.std.specs.Prelude.{◌⊎◌, Err, IfOk, IsSomeAnd, Ok, OnErr, Result, count_by}
 use Rattle.std.specs.FinSet as set
 use Rattle.std.specs.Option.{option_map}
 use Rattle.std.proofs.lemmas.List.{append-nil}
 use Rattle.std.proofs.lemmas.List.Sums.{sum_by-cons}
 use Rattle.server_acceptor.proofs.LogSteps.{after_append}
-use Rattle.server_acceptor.specs.Accepting.{Finishes, is_command}
+use Rattle.server_acceptor.specs.Accepting.{is_command}
 use Rattle.server_acceptor.specs.Acceptors.{core_of, events_of, parcels_of, shutdown_timeout_of, stop_of}
 use Rattle.server_acceptor.specs.Commanding.{AddsOwn, ComeFrom, IsPausedOnly, KeepsStop, TakesCommands, events_for, stops_behind}
+use Rattle.server_acceptor.specs.Parting.{LeavesRest}
 use Rattle.server_acceptor.specs.Sending.{IsForced}
+use Rattle.server_jobs.specs.Parcels.{is_force}
+use Rattle.server_jobs.specs.declared.parcel.Parcel.{Parcel}
+use Rattle.rtrb.specs.Ring.{sent}
+use Rattle.rtrb.specs.declared.AnyItems.{AnyItems}
+use Rattle.rtrb.specs.declared.producer.Producer.{Producer}
+use Rattle.std.specs.declared.alloc.Global.{Global}
 use Rattle.server_acceptor.specs.Stopping.{IsDue}
 use Rattle.server_acceptor.specs.declared.acceptor.Acceptor.{Acceptor}
 use Rattle.server_acceptor.specs.declared.stop.Stop.{Stop as FirstStop}
@@ -22,8 +29,8 @@ use Rattle.server_core.specs.declared.event.Event.TheVariants as event
 use Rattle.server_run.specs.Report.{is_stop}
 use Rattle.server_run.specs.declared.report.End.{End}
 use Rattle.server_run.specs.declared.report.Report.{Report}
-use Rattle.server_run.specs.declared.report.End.TheVariants.{Drained, Stopped, Memory}
-use Rattle.server.specs.Accepting.{Hears}
+use Rattle.server_run.specs.declared.report.End.TheVariants.{Drained, Stopped, NoWorkers, Memory}
+use Rattle.server.specs.Accepting.{Ends, Hears}
 use Rattle.server.specs.Stopping.{AddedOwn, Commanded, EndsBy, Gave, InTime, IsTold, IsUntold, paused_from, stop_from}
 
 -- ---- lists of commands, one behind the other
@@ -274,14 +281,16 @@ in_time_none a start untold = record {
 
 -- ---- how the run ends
 module _ {Co L : Type 0} (given : Co → Option (List Command)) (stops : Co → ℕ) (ended : Co → Bool) (before after : Co) (a : Acceptor L) (end : End)
-    (told : Commanded given stops ended before after (core_of a)) (finishes : Finishes a end) where
+    (may_fault : Type 0) (told : Commanded given stops ended before after (core_of a)) (finishes : Ends may_fault a end) where
   -- it ends as stopped as the core says
-  as_core : (stop : Option Bool) (e : End) → Finishes a e → (core_of a).stopping ≡ stop → EndsBy stop false false e
+  as_core : (stop : Option Bool) (e : End) → Ends may_fault a e → (core_of a).stopping ≡ stop → EndsBy stop false false e
   as_core None Drained f is = refl
   as_core None (Stopped graceful) f is = absurd (let some : Some graceful ≡ None = sym f.0 ∙ is in cc)
+  as_core None NoWorkers f is = refl
   as_core None Memory f is = refl
   as_core (Some graceful) Drained f is = absurd (let some : Some graceful ≡ None = sym is ∙ f.4 in cc)
   as_core (Some graceful) (Stopped g) f is = (let both : Some g ≡ Some graceful = sym f.0 ∙ is in let same : g ≡ graceful = cc in ap Stopped same)
+  as_core (Some graceful) NoWorkers f is = absurd (let some : Some graceful ≡ None = sym is ∙ f.2 in cc)
   as_core (Some graceful) Memory f is = absurd (let some : Some graceful ≡ None = sym is ∙ f.4 in cc)
 
   -- where no stop of its own was added
@@ -373,3 +382,36 @@ pub gave_settled : {Co R E : Type 0} (given : Co → Option (List Command)) (sto
     → OnErr answer (Gave given stops before mid) → given after ≡ given mid → stops after ≡ stops mid → OnErr answer (Gave given stops before after)
 gave_settled given stops before mid after (Ok report) heard same_given same_stops = tt
 gave_settled given stops before mid after (Err error) heard same_given same_stops = record { came = heard.came; given_more = same_given ∙ heard.given_more; stops_more = same_stops ∙ heard.stops_more }
+
+-- between two turns nothing is heard
+pub hears_leaves : {Co L : Type 0} (given : Co → Option (List Command)) (stops : Co → ℕ) (ended : Co → Bool) (before after : Co) (b c : Acceptor L) (timeout start now : ℕ) → Hears given stops ended b before after timeout start now
+    → LeavesRest b c → Hears given stops ended c before after timeout start now
+hears_leaves {L = L} given stops ended before after b c timeout start now so_far rest = record {
+  commanded = record {
+    came = so_far.commanded.came;
+    own = so_far.commanded.own;
+    given_more = so_far.commanded.given_more;
+    stops_more = so_far.commanded.stops_more;
+    added = so_far.commanded.added;
+    goes_on = λ over paused unstopped. so_far.commanded.goes_on over (sym rest.paused ∙ paused) (sym rest.stopping ∙ unstopped);
+    paused = rest.paused ∙ so_far.commanded.paused;
+    stopping = rest.stopping ∙ so_far.commanded.stopping;
+  };
+  in_time = record {
+    same_timeout = rest.shutdown_timeout ∙ so_far.in_time.same_timeout;
+    since = subst (λ (o : Option FirstStop). IfSome o (λ s. start ≤ s.since)) (sym rest.stop) so_far.in_time.since;
+    forced = λ w is. due (so_far.in_time.forced w (forced_as (parcels_of b) (parcels_of c) w rest.sent is));
+    onward = so_far.in_time.onward;
+  };
+}
+  where
+    due : IsDue b now → IsDue c now
+    due is = subst (λ n. IsSomeAnd (stop_of c) (λ s. (s.graceful ≡ false) ⊎ (s.since + 1000 * n ≤ now))) (sym rest.shutdown_timeout)
+        (subst (λ (o : Option FirstStop). IsSomeAnd o (λ s. (s.graceful ≡ false) ⊎ (s.since + 1000 * shutdown_timeout_of b ≤ now))) (sym rest.stop) is)
+
+    forced_as : (ps qs : List (Producer (Parcel L) Global AnyItems)) (w : ℕ) → map (λ p. sent p) qs ≡ map (λ p. sent p) ps → IsForced qs w → IsForced ps w
+    forced_as [] [] w same is = is
+    forced_as [] (q ∷ qs) w same is = absurd (cc)
+    forced_as (p ∷ ps) [] w same is = absurd (cc)
+    forced_as (p ∷ ps) (q ∷ qs) zero same is = let here : sent q ≡ sent p = cc in subst (λ (items : List (Parcel L)). 0 < count_by is_force items) here is
+    forced_as (p ∷ ps) (q ∷ qs) (suc w) same is = let later : map (λ p. sent p) qs ≡ map (λ p. sent p) ps = cc in forced_as ps qs w later is

@@ -12,3 +12,10 @@ pub mod BackSteps
 pub mod HearSteps
 pub mod LineSteps
 pub mod ForceSteps
+pub mod TaleSteps
+pub mod RowSteps
+pub mod CoreSteps
+pub mod CrewSteps
+pub mod TakeBackSteps
+pub mod ReplaceSteps
+pub mod PlaceSteps

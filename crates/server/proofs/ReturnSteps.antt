@@ -1,5 +1,5 @@
 -- Where nothing is out, all that was put on a ring came back.
-use Rattle.std.proofs.Common.{◌≡◌, ◌++◌, ◌∷◌, [], zero, suc, ℕ, true, false, List, All, slice_index, sum_by, refl, arith, inl, inr}
+use Rattle.std.proofs.Common.{◌≡◌, ◌++◌, ◌∷◌, [], zero, suc, ℕ, true, false, List, All, None, Some, slice_index, sum_by, refl, arith, inl, inr}
 use Rattle.std.specs.Prelude.{sum}
 use Rattle.std.proofs.lemmas.List.Sums.{sum_by-cons}
 use Rattle.std.proofs.lemmas.List.Elements.{All-cons, All-head, All-nil, All-tail}
@@ -60,6 +60,9 @@ module _ {F L E I : Type 0} (may_serve : F → ℕ → L → Ended L → Type 0)
     wider token link back outcome.ReadFault (inr held) = absurd held
     wider token link back outcome.WriteFault (inr held) = absurd held
     wider token link back outcome.Upgraded (inr held) = absurd held
+    wider token link back (outcome.Lost None) (inr held) = inr held
+    wider token link back (outcome.Lost (Some worker)) (inr (inl held)) = inr (inl held)
+    wider token link back (outcome.Lost (Some worker)) (inr (inr held)) = inr (inr (means.leaves token link back held))
     wider token link back (outcome.Stopped false) (inr held) = inr held
     wider token link back (outcome.Stopped true) (inr held) = inr (means.leaves token link back held)
     wider token link back outcome.Memory (inr held) = inr (means.leaves token link back held)
@@ -67,5 +70,5 @@ module _ {F L E I : Type 0} (may_serve : F → ℕ → L → Ended L → Type 0)
     -- a note that is true of the copy's services is true of its original's
     pub told_wider : (listeners : ℕ) (parcels : List (Parcel L)) (n : Note L) → IsTold (may_serve copy) (may_leave copy) (may_make copy) listeners parcels n → IsTold (may_serve original) (may_leave original) (may_make original) listeners parcels n
     told_wider listeners parcels Ready told = λ token inside. means.makes token (told token inside)
-    told_wider listeners parcels (Back e) told = record { link = told.link; came = told.came; comes_back = wider e.token told.link e.link e.outcome told.comes_back; stop = told.stop; force = told.force }
+    told_wider listeners parcels (Back e) told = record { link = told.link; came = told.came; comes_back = wider e.token told.link e.link e.outcome told.comes_back; unlost = told.unlost; stop = told.stop; force = told.force }
     told_wider listeners parcels Faulted told = told

@@ -1,5 +1,5 @@
 -- At the start nothing is carried.
-use Rattle.std.proofs.Common.{◌≡◌, ◌∷◌, [], zero, suc, ℕ, ◌+◌, List, length, drop, replicate, All, Option, Some, None, slice_get, slice_index, slice_index_or, sum_by, refl, sym, ◌∙◌, ap, arith, subst}
+use Rattle.std.proofs.Common.{◌≡◌, ◌∷◌, [], zero, suc, ℕ, ◌+◌, Bool, List, length, drop, replicate, All, Option, Some, None, slice_get, slice_index, slice_index_or, sum_by, refl, sym, ◌∙◌, ap, arith, subst}
 use Rattle.std.specs.Option.{option_map, option_map_or}
 use Rattle.std.proofs.lemmas.Bool.Decides.{nat_tests}
 use Rattle.std.proofs.lemmas.List.{get_or-replicate, length-replicate}
@@ -40,7 +40,7 @@ pub no_drop : {X : Type 0} (o : Option (List X)) → o ≡ option_map (drop 0) o
 no_drop None = refl
 no_drop (Some xs) = refl
 
-module _ {Li L : Type 0} (given : Li → ℕ) (left : Li → Option (List L)) (identity : L → Identity) (ls : List Li) (a : Acceptor L)
+module _ {Li L : Type 0} (given : Li → ℕ) (left : Li → Option (List L)) (identity : L → Identity) (none_left : Bool) (ls : List Li) (a : Acceptor L)
     (ps : List (Producer (Parcel L) Global AnyItems)) (ns : List (Consumer (Note L) Global AnyItems)) (listeners limit retry_limit timeout : ℕ) (new : IsNew a ps ns listeners limit retry_limit timeout)
     (unsent : All (λ p. sent p ≡ []) ps) (unreceived : All (λ c. received c ≡ []) ns) where
   parcels_none : (h : Card → ℕ) → All (λ p. sum_by (of_parcel identity h) (sent p) ≡ 0) a.parcels.items
@@ -58,10 +58,10 @@ module _ {Li L : Type 0} (given : Li → ℕ) (left : Li → Option (List L)) (i
   no_rise : (t : ℕ) → rise given ls ls t ≡ 0
   no_rise t = omega arith
 
-  pub carries_start : Carries given left identity ls ls a []
+  pub carries_start : Carries given left identity none_left ls ls a []
   carries_start = record {
     gone = [];
-    let_go = All-nil (IsLetGo left ls);
+    let_go = All-nil (IsLetGo left ls none_left);
     count = put_none (λ c. 1) ∙ sym new.serial;
     serials = λ k. put_none (each (has_serial k)) ∙ sym (ap (λ n. once_below n k) new.serial ∙ once_below-zero k);
     places = λ t k. put_none (each (has_place t k)) ∙ sym (ap (λ n. once_below n k) (no_rise t) ∙ once_below-zero k);

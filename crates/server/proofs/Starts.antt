@@ -1,17 +1,20 @@
 -- Workers that are started one after another.
-use Rattle.std.proofs.Common.{◌≡◌, ◌≢◌, Result, Err, Some, ◌+◌, ◌∷◌, ◌++◌, [], ℕ, List, All, length, map, refl, sym, ◌∙◌, ap, arith, subst}
+use Rattle.std.proofs.Common.{◌≡◌, ◌≢◌, Result, Err, Option, Some, ◌<◌, ◌+◌, ◌∷◌, ◌++◌, [], ℕ, List, All, length, map, refl, sym, ◌∙◌, ap, arith, subst, sum_by, inl}
+use Rattle.std.specs.List.{list_any}
 use Rattle.std.proofs.lemmas.List.{length-append, length-map}
 use Rattle.std.proofs.lemmas.List.Elements.{All-nil}
 use Rattle.std.specs.declared.alloc.Global.{Global}
-use Rattle.futures.specs.declared.task.Poll.TheVariants.{Ready}
-use Rattle.rtrb.specs.Ring.{IsPair, received, sent}
+use Rattle.rtrb.specs.Ring.{IsPair, producer_capacity, received, sent}
 use Rattle.rtrb.specs.declared.AnyItems.{AnyItems}
 use Rattle.rtrb.specs.declared.consumer.Consumer.{Consumer}
 use Rattle.rtrb.specs.declared.producer.Producer.{Producer}
 use Rattle.service_core.specs.Counts.{risen}
+use Rattle.service_core.specs.Link.{Identity}
 use Rattle.service_core.specs.Meaning.{Readiness}
 use Rattle.service_core.specs.declared.ended.Ended.{Ended}
+use Rattle.server_jobs.specs.Cards.{of_note, of_parcel}
 use Rattle.server_jobs.specs.Jobs.{job_of}
+use Rattle.server_jobs.specs.Parcels.{is_stop}
 use Rattle.server_jobs.specs.declared.line.Line.{Line}
 use Rattle.server_jobs.specs.declared.note.Note.{Note}
 use Rattle.server_jobs.specs.declared.parcel.Parcel.{Parcel}
@@ -22,7 +25,9 @@ use Rattle.server_run.specs.declared.serve_error.ServeError.TheVariants.{Spawn a
 use Rattle.server_run.specs.Creating.{HasMeaningOf}
 use Rattle.server.proofs.Rows.{started_more}
 use Rattle.server.specs.Failing.{IsFault}
-use Rattle.server.specs.Rows.{lines_of}
+use Rattle.server.specs.Rows.{Row, rows_of}
+use Rattle.server.specs.Tales.{IsTale}
+use Rattle.server_run.specs.Serving.{MayFault}
 use Rattle.server.specs.Starting.{IsStarted, RoseBy}
 use Rattle.server.specs.declared.start_fault.StartFault.{StartFault}
 use Rattle.server.specs.declared.start_fault.StartFault.TheVariants.{Spawn, Memory}
@@ -35,18 +40,22 @@ module _ {F L E I : Type 0} (may_serve : F → ℕ → L → Ended L → Type 0)
   pub is_started : {O : Type 0} (factory copy : F) (listeners : ℕ) (line : Line L (WorkerJob L F) O) (job : WorkerJob L F) (taken : Consumer (Parcel L) Global AnyItems) (noted : Producer (Note L) Global AnyItems)
       → job_of line.running ≡ job → parcels_of job ≡ taken → notes_of job ≡ noted → factory_of job ≡ copy → listeners_of job ≡ listeners
       → IsPair line.parcels taken → sent line.parcels ≡ [] → received taken ≡ [] → IsPair noted line.notes → sent noted ≡ [] → received line.notes ≡ []
-      → ((token : ℕ) (e : E) → may_ready factory token (Ready (Err e)) → ⊥) → HasMeaningOf may_serve may_leave may_ready may_init may_make factory copy
-      → IsStarted may_serve may_leave may_ready may_init may_make factory listeners line
-  is_started factory copy listeners line job taken noted is parcels notes made many to_it sent_none its_none from_it its_unsent received_none never_errs means = record {
+      → 0 < producer_capacity noted → HasMeaningOf may_serve may_leave may_ready may_init may_make factory copy
+      → (identity : L → Identity) (workers : ℕ) → IsStarted may_serve may_leave may_ready may_init may_make identity workers factory listeners line
+  is_started factory copy listeners line job taken noted is parcels notes made many to_it sent_none its_none from_it its_unsent received_none place means identity workers = record {
     runs = record {
       to_it = subst (λ c. IsPair line.parcels c) (sym inward) to_it;
       from_it = subst (λ p. IsPair p line.notes) (sym outward) from_it;
-      unreceived = ap (λ c. received c) inward ∙ its_none;
-      unsent = ap (λ p. sent p) outward ∙ its_unsent;
-      never_errs = never_errs;
+      place = subst (λ p. 0 < producer_capacity p) (sym outward) place;
+      balanced = λ h. ap (sum_by (of_parcel identity h)) unreceived ∙ sym (ap (sum_by (of_note identity h)) unsent);
+      told = subst (λ ns. All (IsTale workers (MayFault (may_ready factory) (may_init factory) listeners) (may_serve factory) (may_leave factory) (may_make factory) listeners (received (parcels_of (job_of line.running)))) ns) (sym unsent)
+          (All-nil (IsTale workers (MayFault (may_ready factory) (may_init factory) listeners) (may_serve factory) (may_leave factory) (may_make factory) listeners (received (parcels_of (job_of line.running)))));
+      unstopped = ap (list_any is_stop) unreceived;
+      began = inl unsent;
       means = subst (HasMeaningOf may_serve may_leave may_ready may_init may_make factory) (sym (ap factory_of is ∙ made)) means;
       as_many = ap listeners_of is ∙ many;
     };
+    unsent = unsent;
     sent_none = sent_none;
     received_none = received_none;
   }
@@ -57,32 +66,38 @@ module _ {F L E I : Type 0} (may_serve : F → ℕ → L → Ended L → Type 0)
       outward : notes_of (job_of line.running) ≡ noted
       outward = ap notes_of is ∙ notes
 
-pub record StartsUpTo {L J O : Type 0} (P : Line L J O → Type 0) (first_starts first_refusals : ℕ) (w : ℕ) (ps : List (Producer (Parcel L) Global AnyItems)) (ns : List (Consumer (Note L) Global AnyItems)) (rs : List (Running J O))
+      unreceived : received (parcels_of (job_of line.running)) ≡ []
+      unreceived = ap (λ c. received c) inward ∙ its_none
+
+      unsent : sent (notes_of (job_of line.running)) ≡ []
+      unsent = ap (λ p. sent p) outward ∙ its_unsent
+
+pub record StartsUpTo {L J O : Type 0} (P : Row L J O → Type 0) (first_starts first_refusals : ℕ) (w : ℕ) (ps : List (Producer (Parcel L) Global AnyItems)) (ns : List (Consumer (Note L) Global AnyItems)) (rs : List (Option (Running J O)))
     (starts refusals : ℕ) : Type 0 where
-  pub started : All P (lines_of ps ns rs)
+  pub started : All P (rows_of ps ns rs)
   pub as_many : (length ps ≡ w) × (length ns ≡ w) × (length rs ≡ w)
   pub begun : RoseBy w first_starts starts
   pub unrefused : refusals ≡ first_refusals
 
-module _ {L J O : Type 0} (P : Line L J O → Type 0) where
-  pub starts_none : (a b : ℕ) (ps : List (Producer (Parcel L) Global AnyItems)) (ns : List (Consumer (Note L) Global AnyItems)) (rs : List (Running J O)) → ps ≡ [] → ns ≡ [] → rs ≡ [] → StartsUpTo P a b 0 ps ns rs a b
+module _ {L J O : Type 0} (P : Row L J O → Type 0) where
+  pub starts_none : (a b : ℕ) (ps : List (Producer (Parcel L) Global AnyItems)) (ns : List (Consumer (Note L) Global AnyItems)) (rs : List (Option (Running J O))) → ps ≡ [] → ns ≡ [] → rs ≡ [] → StartsUpTo P a b 0 ps ns rs a b
   starts_none a b ps ns rs is too three = record {
-    started = subst (All P) (sym (ap (λ xs. lines_of xs ns rs) is)) (All-nil P);
+    started = subst (All P) (sym (ap (λ xs. rows_of xs ns rs) is)) (All-nil P);
     as_many = (ap length is, ap length too, ap length three);
     begun = record { at_least = omega arith; at_most = omega arith };
     unrefused = refl;
   }
 
   -- one worker more was started
-  pub starts_more : (a b w starts refusals now : ℕ) (ps qs : List (Producer (Parcel L) Global AnyItems)) (ns ms : List (Consumer (Note L) Global AnyItems)) (rs ss : List (Running J O)) (line : Line L J O)
-      → StartsUpTo P a b w qs ms ss starts refusals → ps ≡ qs ++ line.parcels ∷ [] → ns ≡ ms ++ line.notes ∷ [] → rs ≡ ss ++ line.running ∷ [] → P line → now ≡ risen starts
+  pub starts_more : (a b w starts refusals now : ℕ) (ps qs : List (Producer (Parcel L) Global AnyItems)) (ns ms : List (Consumer (Note L) Global AnyItems)) (rs ss : List (Option (Running J O))) (row : Row L J O)
+      → StartsUpTo P a b w qs ms ss starts refusals → ps ≡ qs ++ row.parcels ∷ [] → ns ≡ ms ++ row.notes ∷ [] → rs ≡ ss ++ row.running ∷ [] → P row → now ≡ risen starts
       → (later : ℕ) → later ≡ refusals → StartsUpTo P a b (w + 1) ps ns rs now later
-  starts_more a b w starts refusals now ps qs ns ms rs ss line so_far is too three here rises later same = record {
-    started = started_more P ps qs ns ms rs ss line is too three (so_far.as_many.0 ∙ sym so_far.as_many.2) (so_far.as_many.1 ∙ sym so_far.as_many.2) so_far.started here;
+  starts_more a b w starts refusals now ps qs ns ms rs ss row so_far is too three here rises later same = record {
+    started = started_more P ps qs ns ms rs ss row is too three (so_far.as_many.0 ∙ sym so_far.as_many.2) (so_far.as_many.1 ∙ sym so_far.as_many.2) so_far.started here;
     as_many = (
-      let m = so_far.as_many.0 in let e = ap length is in omega (arith, length-append qs (line.parcels ∷ [])),
-      let m = so_far.as_many.1 in let e = ap length too in omega (arith, length-append ms (line.notes ∷ [])),
-      let m = so_far.as_many.2 in let e = ap length three in omega (arith, length-append ss (line.running ∷ [])),
+      let m = so_far.as_many.0 in let e = ap length is in omega (arith, length-append qs (row.parcels ∷ [])),
+      let m = so_far.as_many.1 in let e = ap length too in omega (arith, length-append ms (row.notes ∷ [])),
+      let m = so_far.as_many.2 in let e = ap length three in omega (arith, length-append ss (row.running ∷ [])),
     );
     begun = rose_more w a starts now rises so_far.begun;
     unrefused = same ∙ so_far.unrefused;

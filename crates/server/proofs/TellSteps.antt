@@ -9,13 +9,14 @@ use Rattle.server_run.specs.Delivery.{HasEnded, given_at}
 use Rattle.server_run.specs.Listener.{Mark}
 use Rattle.server_run.specs.Report.{EndedMeanwhile, HasFailed, IsTold, Tells}
 use Rattle.server_run.specs.declared.report.End.{End}
-use Rattle.server_run.specs.declared.report.End.TheVariants.{Drained, Stopped, Memory}
+use Rattle.server_run.specs.declared.report.End.TheVariants.{Drained, Stopped, NoWorkers, Memory}
 use Rattle.server_run.specs.declared.report.ListenerState.{ListenerState}
 use Rattle.server_run.specs.declared.report.ListenerState.TheVariants.{Ended, Faulted, Open}
 use Rattle.server_run.specs.declared.report.Report.{Report}
-use Rattle.server_acceptor.specs.Accepting.{Finishes, TellsEnds}
+use Rattle.server_acceptor.specs.Accepting.{TellsEnds}
 use Rattle.server_acceptor.specs.Acceptors.{core_of, listeners_of, retry_limit_of}
 use Rattle.server_acceptor.specs.States.{IsStateOf}
+use Rattle.server.specs.Accepting.{Ends}
 use Rattle.server_acceptor.proofs.Failing.{faulted_exactly}
 use Rattle.server_acceptor.specs.declared.acceptor.Acceptor.{Acceptor}
 
@@ -38,10 +39,11 @@ past (x ∷ xs) zero P beyond = absurd (omega arith)
 past (x ∷ xs) (suc t) P beyond = past xs t P (omega arith)
 
 -- where it finished drained, each listener has ended
-drained_all : {L : Type 0} (a : Acceptor L) (end : End) → Finishes a end → end ≡ Drained → (t : ℕ) → t < listeners_of a → slice_index_or (core_of a).ended t false ≡ true
-drained_all a Drained f is = f.0
-drained_all a (Stopped graceful) f is = absurd (cc)
-drained_all a Memory f is = absurd (cc)
+drained_all : {L : Type 0} (may_fault : Type 0) (a : Acceptor L) (end : End) → Ends may_fault a end → end ≡ Drained → (t : ℕ) → t < listeners_of a → slice_index_or (core_of a).ended t false ≡ true
+drained_all may_fault a Drained f is = f.0
+drained_all may_fault a (Stopped graceful) f is = absurd (cc)
+drained_all may_fault a NoWorkers f is = absurd (cc)
+drained_all may_fault a Memory f is = absurd (cc)
 
 -- one is told as given up exactly where the core counts as many failures as it may have
 pub told_exactly : {L : Type 0} (a : Acceptor L) (report : Report) (t limit : ℕ) → retry_limit_of a ≡ limit → t < listeners_of a → t < length report.listeners.items
@@ -53,9 +55,9 @@ told_exactly a report t limit same inside within state =
       λ full. here.1 ∙ ap Some (exactly.1 (full ∙ sym same)) ∙ ap (λ n. Some (Faulted n)) same,
     )
 
-module _ {Li L : Type 0} (rest : Li → Option (List Mark)) (ended : Li → Bool) (faults : Li → ℕ) (limit : ℕ) (before after : List Li) (core : Core) (a : Acceptor L) (report : Report)
+module _ {Li L : Type 0} (rest : Li → Option (List Mark)) (ended : Li → Bool) (faults : Li → ℕ) (limit : ℕ) (before after : List Li) (core : Core) (a : Acceptor L) (report : Report) (may_fault : Type 0)
     (fresh_core : (t : ℕ) → slice_index_or core.ended t false ≡ false)
-    (tells : TellsEnds ended faults limit before after core (core_of a)) (finishes : Finishes a report.end)
+    (tells : TellsEnds ended faults limit before after core (core_of a)) (finishes : Ends may_fault a report.end)
     (length_same : length after ≡ length before) (many : length report.listeners.items ≡ length after) (all : listeners_of a ≡ length after)
     (states : (t : ℕ) → IfSome (slice_get report.listeners.items t) (IsStateOf (core_of a) limit t))
     (by_rest : (t : ℕ) → t < length after → HasFailed rest limit before after t (IsTold report t (Faulted limit))) where
@@ -110,12 +112,12 @@ module _ {Li L : Type 0} (rest : Li → Option (List Mark)) (ended : Li → Bool
     state_faulted = is_faulted;
     state_by_rest = by_rest;
     state_open = λ t told is.
-        let now = drained_all a report.end finishes is t (omega (arith, all, many, slice_get_within report.listeners.items t Open told)) in
+        let now = drained_all may_fault a report.end finishes is t (omega (arith, all, many, slice_get_within report.listeners.items t Open told)) in
         let e : true ≡ false = sym now ∙ state_at t Open told in
         absurd (cc);
     drained = λ is t inside.
         let here = there report.listeners.items t (omega (arith, many, inside)) in
-        let now = drained_all a report.end finishes is t (omega (arith, all, inside)) in
+        let now = drained_all may_fault a report.end finishes is t (omega (arith, all, inside)) in
         elim (of_ended t here.0 now here.1) [
           | inl told ↦ inl (is_ended t told)
           | inr told ↦ inr told

@@ -6,5 +6,7 @@ pub mod Rows
 pub mod Servers
 pub mod Settings
 pub mod Starting
+pub mod Tales
+pub mod Replacing
 pub mod Returning
 pub mod Stopping

@@ -58,8 +58,8 @@ IsForcedInTime end late entry = is_forced entry.outcome ≡ true → (end ≡ St
 
 -- Each connection that the listeners gave was handed on, once, with its link; and none was stopped by force before its time.
 pub record ServesInTime {Li L D : Type 0} (given : Li → ℕ) (left : Li → Option (List L)) (identity : L → Identity) (may_serve : ℕ → L → Ended L → Type 0)
-    (may_leave : ℕ → L → L → Type 0) (taken : D → Option (List (Entry L))) (count served : D → ℕ) (before after : List Li) (old new : D) (end : End) (late : Type 0) : Type 0 where
-  pub serves : Serves given left identity may_serve may_leave taken count served before after old new end
+    (may_leave : ℕ → L → L → Type 0) (taken : D → Option (List (Entry L))) (count served : D → ℕ) (before after : List Li) (old new : D) (workers : ℕ) (may_fault : Type 0) (end : End) (late : Type 0) : Type 0 where
+  pub serves : Serves given left identity may_serve may_leave taken count served before after old new workers may_fault end
   pub forced : All (IsForcedInTime end late) serves.entries
 
 -- ---- on the way there

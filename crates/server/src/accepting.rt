@@ -1,59 +1,70 @@
 //! How the server accepts, turn after turn.
-ghost use Rattle.std.specs.Prelude.{◌≡◌, ◌⊎◌, ◌≤◌, IfSome, None, true, false};
-ghost use Rattle.server_acceptor.specs.Accepting.{Finishes};
+ghost use Rattle.std.specs.Prelude.{◌≡◌, ◌⊎◌, ◌≤◌, ◌<◌, [], length, vec_len, IfSome, None, true, false};
+ghost use Rattle.server_acceptor.specs.Accepting.{IsNoted};
 ghost use Rattle.server_acceptor.specs.Acceptors.{all_ready, out_of, serial_of, shutdown_timeout_of};
+ghost use Rattle.server_acceptor.specs.Carrying.{Carries};
 ghost use Rattle.server_run.specs.Report.{is_stop};
-ghost use Rattle.server.specs.Accepting.{Accepts, CanAccept, Hears};
+ghost use Rattle.server_run.specs.Serving.{MayFault};
+ghost use Rattle.server.specs.Accepting.{Accepts, CanAccept, Ends, Hears, ends_alone};
+ghost use Rattle.server.specs.Replacing.{Crew, Restarts};
 ghost use Rattle.server.specs.Stopping.{IsUntold};
 
-use crate::joining::wake_all;
+use crate::joining::{wake_all, wake_one};
+use crate::replacing::replace_one;
 use crate::rests::Rests;
 use futures::task::Context;
 use server_acceptor::{AcceptTurn, Acceptor};
 use server_commands::Commands;
 use server_core::Event;
-use server_jobs::{Clock, OneTask};
-use server_run::{Done, End, Listener};
-use service_core::Link;
-use std::sync::Wait;
+use server_jobs::{Clock, Job, OneTask, Running, Spawner, ThreadFactory};
+use server_run::{Done, End, Host, Listener};
+use service_core::{Link, ServiceFactory};
+use std::alloc::Global;
+use worker_job::WorkerJob;
 
 // Wakes the workers that got a connection in the last turn.
-fn wake_sent<Ho, L, Sp>(acceptor: &Acceptor<L>, numbers: &[usize], spawner: &mut Sp)
+fn wake_sent<Ho, L, J, Sp>(
+    acceptor: &Acceptor<L>,
+    running: &Vec<Option<Running<J>>>,
+    spawner: &mut Sp,
+)
 where
     L: Link,
+    J: Job,
     Sp: Rests<Ho>,
     ensures { Sp.counts spawner.new ≡ Sp.counts spawner.old }
 {
     for event in acceptor.events().iter() {
         if let Event::Sent { worker, .. } = *event {
-            if worker < numbers.len() {
-                spawner.ring_for(numbers[worker]);
-            }
+            wake_one::<Ho, J, Sp>(running, worker, spawner);
         }
     }
 }
 
 // Wakes the workers for which something is: all of them after a stop.
-fn wake<Ho, L, Sp>(acceptor: &Acceptor<L>, numbers: &[usize], spawner: &mut Sp)
+fn wake<Ho, L, J, Sp>(acceptor: &Acceptor<L>, running: &Vec<Option<Running<J>>>, spawner: &mut Sp)
 where
     L: Link,
+    J: Job,
     Sp: Rests<Ho>,
     ensures { Sp.counts spawner.new ≡ Sp.counts spawner.old }
 {
     if acceptor.is_stopping() {
-        wake_all::<Ho, Sp>(numbers, spawner);
+        wake_all::<Ho, J, Sp>(running, spawner);
     } else {
-        wake_sent::<Ho, L, Sp>(acceptor, numbers, spawner);
+        wake_sent::<Ho, L, J, Sp>(acceptor, running, spawner);
     }
 }
 
-// Makes turns until nothing is left to do. None says that a worker ended before all were ready, or that there was no memory to
-// accept the first connection.
-fn accept_all<Ho, Li, Co, Cl, Sp, Do>(
+// Makes turns until nothing is left to do, and joins each worker that ends by a fault meanwhile. None says that a worker ended before
+// all were ready, or that there was no memory to accept the first connection.
+fn accept_all<Ho, Li, F, Co, Cl, Sp, Do>(
     rt: &Ho,
+    alloc: Global,
+    factory: &F,
     cx: &mut Context<'_>,
     acceptor: &mut Acceptor<Li::Link>,
-    numbers: &[usize],
+    running: &mut Vec<Option<Running<WorkerJob<Li::Link, F>>>>,
     listeners: &mut Vec<Li>,
     commands: &mut Co,
     clock: &mut Cl,
@@ -61,32 +72,46 @@ fn accept_all<Ho, Li, Co, Cl, Sp, Do>(
     done: &mut Do,
 ) -> Option<End>
 where
-    Ho: Wait,
-    Li: Listener,
+    Ho: Host + 'static,
+    Li: Listener<Link: Send + 'static>,
+    F: ThreadFactory<Li::Link> + 'static,
     Co: Commands,
     Cl: Clock,
-    Sp: Rests<Ho>,
+    Sp: Spawner,
     Do: Done<Li::Link>,
+    Li::Link: 'static,
+    <F::Factory as ServiceFactory<Li::Link>>::Error: 'static,
+    <F::Factory as ServiceFactory<Li::Link>>::InitError: 'static,
     requires can { CanAccept Li.given listeners.old.items acceptor.old (Do.spare done.old) }
     requires fresh { IsUntold acceptor.old }
-    ensures accepts { Accepts Li.given Li.left Li.rest Li.Link.identity Li.ended Li.faults Do.taken Do.count Do.served listeners.old.items listeners.new.items acceptor.old acceptor.new done.old done.new }
-    ensures counts { Sp.counts spawner.new ≡ Sp.counts spawner.old }
+    requires count { (0 < vec_len listeners.old) × (vec_len listeners.old ≤ 64) }
+    requires noted { IsNoted acceptor.old }
+    requires carries { Carries Li.given Li.left Li.Link.identity false listeners.old.items listeners.old.items acceptor.old [] }
+    requires crew { Crew F.may_serve F.may_leave F.may_ready F.may_init F.may_make Li.Link.identity factory.now (vec_len listeners.old) acceptor.old running.old.items }
+    ensures accepts { Accepts Li.given Li.left Li.rest Li.Link.identity Li.ended Li.faults Do.taken Do.count Do.served listeners.old.items listeners.new.items acceptor.old acceptor.new done.old done.new (ends_alone result) }
+    ensures crew { Crew F.may_serve F.may_leave F.may_ready F.may_init F.may_make Li.Link.identity factory.now (vec_len listeners.old) acceptor.new running.new.items }
+    ensures as_many { length running.new.items ≡ length running.old.items }
+    ensures counts { Restarts (MayFault (F.may_ready factory.now) (F.may_init factory.now) (vec_len listeners.old)) (Sp.starts spawner.old, Sp.refusals spawner.old) (Sp.starts spawner.new, Sp.refusals spawner.new) }
     ensures hears { Hears Co.given Co.stops Co.ended acceptor.new commands.old commands.new (shutdown_timeout_of acceptor.old) (Cl.told clock.old) (Cl.told clock.new) }
     ensures room { out_of acceptor.new ≤ Do.spare done.new }
-    ensures finished { IfSome result (λ end. (is_stop end ≡ false → all_ready acceptor.new ≡ true) × Finishes acceptor.new end) }
+    ensures finished { IfSome result (λ end. (is_stop end ≡ false → all_ready acceptor.new ≡ true) × Ends (MayFault (F.may_ready factory.now) (F.may_init factory.now) (vec_len listeners.old)) acceptor.new end) }
     ensures refused { result ≡ None → (all_ready acceptor.new ≡ false) ⊎ (serial_of acceptor.new ≡ 0) }
 {
+    let count = listeners.len();
     for _ in rt.forever() {
         let turned = acceptor.turn(cx, listeners, commands, clock, done);
-        wake::<Ho, Li::Link, Sp>(acceptor, numbers, spawner);
+        wake::<Ho, Li::Link, WorkerJob<Li::Link, F>, Sp>(acceptor, running, spawner);
         match turned {
             AcceptTurn::Going => spawner.rest_for(rt, !acceptor.events().is_empty()),
-            // Readiness never errs, so no worker ends by a fault once it is ready.
-            AcceptTurn::WorkerEnded(_) => {
+            AcceptTurn::WorkerEnded(w) => {
                 if !acceptor.all_ready() {
                     return None;
                 }
-                spawner.rest_for(rt, false);
+                if replace_one::<Ho, Li, F, Sp, Do>(
+                    rt, alloc, factory, acceptor, w, running, count, spawner, done,
+                ) {
+                    return Some(End::NoWorkers);
+                }
             }
             AcceptTurn::Finished(end) => {
                 if let End::Stopped { .. } = end {
@@ -106,11 +131,13 @@ where
 }
 
 // Accepts with a context of the task.
-pub(crate) fn accept_on<Ho, Li, Co, Cl, Sp, Do>(
+pub(crate) fn accept_on<Ho, Li, F, Co, Cl, Sp, Do>(
     rt: &Ho,
+    alloc: Global,
+    factory: &F,
     task: &OneTask,
     acceptor: &mut Acceptor<Li::Link>,
-    numbers: &[usize],
+    running: &mut Vec<Option<Running<WorkerJob<Li::Link, F>>>>,
     listeners: &mut Vec<Li>,
     commands: &mut Co,
     clock: &mut Cl,
@@ -118,25 +145,34 @@ pub(crate) fn accept_on<Ho, Li, Co, Cl, Sp, Do>(
     done: &mut Do,
 ) -> Option<End>
 where
-    Ho: Wait,
-    Li: Listener,
+    Ho: Host + 'static,
+    Li: Listener<Link: Send + 'static>,
+    F: ThreadFactory<Li::Link> + 'static,
     Co: Commands,
     Cl: Clock,
-    Sp: Rests<Ho>,
+    Sp: Spawner,
     Do: Done<Li::Link>,
+    Li::Link: 'static,
+    <F::Factory as ServiceFactory<Li::Link>>::Error: 'static,
+    <F::Factory as ServiceFactory<Li::Link>>::InitError: 'static,
     requires can { CanAccept Li.given listeners.old.items acceptor.old (Do.spare done.old) }
-    requires none { serial_of acceptor.old ≡ 0 }
     requires fresh { IsUntold acceptor.old }
-    ensures accepts { Accepts Li.given Li.left Li.rest Li.Link.identity Li.ended Li.faults Do.taken Do.count Do.served listeners.old.items listeners.new.items acceptor.old acceptor.new done.old done.new }
-    ensures counts { Sp.counts spawner.new ≡ Sp.counts spawner.old }
+    requires count { (0 < vec_len listeners.old) × (vec_len listeners.old ≤ 64) }
+    requires noted { IsNoted acceptor.old }
+    requires carries { Carries Li.given Li.left Li.Link.identity false listeners.old.items listeners.old.items acceptor.old [] }
+    requires crew { Crew F.may_serve F.may_leave F.may_ready F.may_init F.may_make Li.Link.identity factory.now (vec_len listeners.old) acceptor.old running.old.items }
+    ensures accepts { Accepts Li.given Li.left Li.rest Li.Link.identity Li.ended Li.faults Do.taken Do.count Do.served listeners.old.items listeners.new.items acceptor.old acceptor.new done.old done.new (ends_alone result) }
+    ensures crew { Crew F.may_serve F.may_leave F.may_ready F.may_init F.may_make Li.Link.identity factory.now (vec_len listeners.old) acceptor.new running.new.items }
+    ensures as_many { length running.new.items ≡ length running.old.items }
+    ensures counts { Restarts (MayFault (F.may_ready factory.now) (F.may_init factory.now) (vec_len listeners.old)) (Sp.starts spawner.old, Sp.refusals spawner.old) (Sp.starts spawner.new, Sp.refusals spawner.new) }
     ensures hears { Hears Co.given Co.stops Co.ended acceptor.new commands.old commands.new (shutdown_timeout_of acceptor.old) (Cl.told clock.old) (Cl.told clock.new) }
     ensures room { out_of acceptor.new ≤ Do.spare done.new }
-    ensures finished { IfSome result (λ end. (is_stop end ≡ false → all_ready acceptor.new ≡ true) × Finishes acceptor.new end) }
+    ensures finished { IfSome result (λ end. (is_stop end ≡ false → all_ready acceptor.new ≡ true) × Ends (MayFault (F.may_ready factory.now) (F.may_init factory.now) (vec_len listeners.old)) acceptor.new end) }
     ensures refused { result ≡ None → (all_ready acceptor.new ≡ false) ⊎ (serial_of acceptor.new ≡ 0) }
 {
     let mut cx = task.begin();
     let end = accept_all(
-        rt, &mut cx, acceptor, numbers, listeners, commands, clock, spawner, done,
+        rt, alloc, factory, &mut cx, acceptor, running, listeners, commands, clock, spawner, done,
     );
     cx.cancel();
     end

@@ -1,9 +1,9 @@
 //! How the workers are told to leave, and joined.
-ghost use Rattle.std.specs.Prelude.{◌≡◌, ◌∷◌, [], All, IfSome, length, map};
+ghost use Rattle.std.specs.Prelude.{◌≡◌, ◌∷◌, [], Some, All, IfSome, length, map};
 ghost use Rattle.server_acceptor.specs.Rings.{ring_in};
 ghost use Rattle.server_jobs.specs.Joins.{IsLine};
-ghost use Rattle.server.specs.Joining.{IsJoined, IsUnstarted};
-ghost use Rattle.server.specs.Rows.{lines_of};
+ghost use Rattle.server.specs.Joining.{IsJoinable, IsUnstarted};
+ghost use Rattle.server.specs.Rows.{rows_of};
 
 use crate::rests::Rests;
 use crate::unstarted::Unstarted;
@@ -22,14 +22,27 @@ pub(crate) fn stop_all<L: Drop>(parcels: &mut Vec<Producer<Parcel<L>>>)
     }
 }
 
-// Wakes all workers.
-pub(crate) fn wake_all<Ho, Sp>(numbers: &[usize], spawner: &mut Sp)
+// Wakes the worker with that number, if it runs.
+pub(crate) fn wake_one<Ho, J, Sp>(running: &Vec<Option<Running<J>>>, w: usize, spawner: &mut Sp)
 where
+    J: Job,
     Sp: Rests<Ho>,
     ensures { Sp.counts spawner.new ≡ Sp.counts spawner.old }
 {
-    for number in numbers.iter() {
-        spawner.ring_for(*number);
+    if let Some(Some(job)) = running.get(w) {
+        spawner.ring_for(job.number());
+    }
+}
+
+// Wakes all workers.
+pub(crate) fn wake_all<Ho, J, Sp>(running: &Vec<Option<Running<J>>>, spawner: &mut Sp)
+where
+    J: Job,
+    Sp: Rests<Ho>,
+    ensures { Sp.counts spawner.new ≡ Sp.counts spawner.old }
+{
+    for w in 0..running.len() {
+        wake_one::<Ho, J, Sp>(running, w, spawner);
     }
 }
 
@@ -43,8 +56,7 @@ where
     L: Link + Send,
     F: ThreadFactory<L>,
     requires { IsLine L.identity ⟦<WorkerJob<L, F> as Job>⟧.promise ⟦<Handed<L, F, Departure<<F::Factory as ServiceFactory<L>>::Error, <F::Factory as ServiceFactory<L>>::InitError>> as Handover<L>>⟧.handed line }
-    ensures joined { IsJoined L.identity ⟦<WorkerJob<L, F> as Job>⟧.promise ⟦<Handed<L, F, Departure<<F::Factory as ServiceFactory<L>>::Error, <F::Factory as ServiceFactory<L>>::InitError>> as Handover<L>>⟧.handed line }
-    ensures unstarted { IfSome result (λ u. IsUnstarted ⟦<WorkerJob<L, F> as Job>⟧.promise ⟦<Handed<L, F, Departure<<F::Factory as ServiceFactory<L>>::Error, <F::Factory as ServiceFactory<L>>::InitError>> as Handover<L>>⟧.handed (line ∷ []) 0 u.0 u.1) }
+    ensures unstarted { IfSome result (λ u. IsUnstarted ⟦<WorkerJob<L, F> as Job>⟧.promise ⟦<Handed<L, F, Departure<<F::Factory as ServiceFactory<L>>::Error, <F::Factory as ServiceFactory<L>>::InitError>> as Handover<L>>⟧.handed (record { parcels = line.parcels; notes = line.notes; running = Some line.running } ∷ []) 0 u.0 u.1) }
 {
     let Joined { handed, .. } = line.join(rt);
     let Handed { departure, .. } = handed;
@@ -67,16 +79,15 @@ pub(crate) fn join_all<Th, L, F>(
     rt: &Th,
     parcels: Vec<Producer<Parcel<L>>>,
     notes: Vec<Consumer<Note<L>>>,
-    running: Vec<Running<WorkerJob<L, F>>>,
+    running: Vec<Option<Running<WorkerJob<L, F>>>>,
 ) -> Option<Unstarted<<F::Factory as ServiceFactory<L>>::InitError>>
 where
     Th: Threads,
     L: Link + Send,
     F: ThreadFactory<L>,
     requires as_many { (length parcels.items ≡ length running.items) × (length notes.items ≡ length running.items) }
-    requires lines { All (IsLine L.identity ⟦<WorkerJob<L, F> as Job>⟧.promise ⟦<Handed<L, F, Departure<<F::Factory as ServiceFactory<L>>::Error, <F::Factory as ServiceFactory<L>>::InitError>> as Handover<L>>⟧.handed) (lines_of parcels.items notes.items running.items) }
-    ensures joined { All (IsJoined L.identity ⟦<WorkerJob<L, F> as Job>⟧.promise ⟦<Handed<L, F, Departure<<F::Factory as ServiceFactory<L>>::Error, <F::Factory as ServiceFactory<L>>::InitError>> as Handover<L>>⟧.handed) (lines_of parcels.items notes.items running.items) }
-    ensures unstarted { IfSome result (λ u. IsUnstarted ⟦<WorkerJob<L, F> as Job>⟧.promise ⟦<Handed<L, F, Departure<<F::Factory as ServiceFactory<L>>::Error, <F::Factory as ServiceFactory<L>>::InitError>> as Handover<L>>⟧.handed (lines_of parcels.items notes.items running.items) u.worker u.token u.error) }
+    requires lines { All (IsJoinable L.identity ⟦<WorkerJob<L, F> as Job>⟧.promise ⟦<Handed<L, F, Departure<<F::Factory as ServiceFactory<L>>::Error, <F::Factory as ServiceFactory<L>>::InitError>> as Handover<L>>⟧.handed) (rows_of parcels.items notes.items running.items) }
+    ensures unstarted { IfSome result (λ u. IsUnstarted ⟦<WorkerJob<L, F> as Job>⟧.promise ⟦<Handed<L, F, Departure<<F::Factory as ServiceFactory<L>>::Error, <F::Factory as ServiceFactory<L>>::InitError>> as Handover<L>>⟧.handed (rows_of parcels.items notes.items running.items) u.worker u.token u.error) }
 {
     let mut parcels = parcels;
     let mut notes = notes;
@@ -89,10 +100,13 @@ where
         let Some(consumer) = notes.pop() else {
             unreachable!()
         };
+        let Some(job) = last else {
+            continue;
+        };
         let line = Line {
             parcels: producer,
             notes: consumer,
-            running: last,
+            running: job,
         };
         if let Some((token, error)) = join_one(rt, line) {
             unstarted = Some(Unstarted {

@@ -8,6 +8,7 @@ mod builder;
 mod building;
 mod joining;
 mod prepared;
+mod replacing;
 mod rests;
 mod returning;
 mod running;
@@ -17,6 +18,7 @@ mod settings;
 mod start_fault;
 mod starting;
 mod states;
+mod taking_back;
 mod unstarted;
 
 pub use bind_error::BindError;

@@ -13,10 +13,9 @@ use std::alloc::{AllocError, Global};
 pub(crate) struct Prepared<L: Drop> {
     // What the acceptor needs.
     pub(crate) room: Room,
-    // For the ends of the workers' rings, and the numbers of their jobs.
+    // For the ends of the workers' rings.
     pub(crate) parcels: Vec<Producer<Parcel<L>>>,
     pub(crate) notes: Vec<Consumer<Note<L>>>,
-    pub(crate) numbers: Vec<usize>,
     // For what is told of the listeners.
     pub(crate) states: Vec<ListenerState>,
     // The acceptor's.
@@ -32,13 +31,11 @@ impl<L: Drop> Prepared<L> {
         requires { workers ≤ 512 }
         ensures room { IfOk result (λ p. IsRoomFor p.room workers listeners) }
         ensures ends { IfOk result (λ p. (p.parcels.items ≡ []) × (p.notes.items ≡ []) × (workers ≤ vec_capacity p.parcels) × (workers ≤ vec_capacity p.notes)) }
-        ensures numbers { IfOk result (λ p. (p.numbers.items ≡ []) × (workers ≤ vec_capacity p.numbers)) }
         ensures states { IfOk result (λ p. (p.states.items ≡ []) × (listeners ≤ vec_capacity p.states)) }
     {
         let room = Room::new(alloc, workers, listeners)?;
         let parcels = Vec::with_capacity(alloc, workers)?;
         let notes = Vec::with_capacity(alloc, workers)?;
-        let numbers = Vec::with_capacity(alloc, workers)?;
         let states = Vec::with_capacity(alloc, listeners)?;
         let Some(task) = OneTask::new(alloc, 0) else {
             return Err(AllocError);
@@ -47,7 +44,6 @@ impl<L: Drop> Prepared<L> {
             room,
             parcels,
             notes,
-            numbers,
             states,
             task,
         })

@@ -1,13 +1,12 @@
 //! A run of the server, from the start of its workers on.
 ghost use Rattle.std.specs.Prelude.{◌≡◌, ◌↔◌, ◌≤◌, ◌<◌, ◌+◌, ◌*◌, ℕ, [], false, IfOk, OnOk, OnErr, IfErr, IsErrOf, Err, length, vec_len};
-ghost use Rattle.futures.specs.declared.task.Poll.TheVariants.{Ready};
 ghost use Rattle.service_core.specs.Counts.{Rose};
 ghost use Rattle.server_run.specs.Creating.{HasMeaningOf, IsStartup};
 ghost use Rattle.server_run.specs.Report.{Tells, is_stop};
-ghost use Rattle.server_run.specs.Serving.{Untouched};
+ghost use Rattle.server_run.specs.Serving.{MayFault, Untouched};
 ghost use Rattle.server_run.specs.declared.serve_error.ServeError.TheVariants.{NoListener, Spawn};
 ghost use Rattle.server.specs.Settings.{IsInRange};
-ghost use Rattle.server.specs.Starting.{RoseBy};
+ghost use Rattle.server.specs.Starting.{RoseBy, Started};
 ghost use Rattle.server.specs.Stopping.{Gave, IsTold, ServesInTime};
 
 use crate::joining::{join_all, stop_all, wake_all};
@@ -15,13 +14,13 @@ use crate::prepared::Prepared;
 use crate::serving::serve_on;
 use crate::settings::Settings;
 use crate::starting::start_workers;
-use crate::states::tell_numbers;
 use server_acceptor::Acceptor;
 use server_commands::Commands;
 use server_jobs::{Clock, Spawner, ThreadFactory};
 use server_run::{Done, Host, Listener, Report, ServeError};
 use service_core::ServiceFactory;
 use std::alloc::Global;
+use worker_job::WorkerJob;
 
 // Starts the workers, serves, and joins them.
 pub(crate) fn serve_by<Ho, Li, F, Co, Cl, Sp, Do>(
@@ -48,22 +47,21 @@ where
     <F::Factory as ServiceFactory<Li::Link>>::InitError: 'static,
     requires ranges { IsInRange settings }
     requires few { vec_len listeners.old ≤ 64 }
-    requires never_errs { (token : ℕ) (e : F.Factory.Error) → F.may_ready factory token (Ready (Err e)) → ⊥ }
     requires clones { (copy : F) → F.is_clone factory copy → HasMeaningOf F.may_serve F.may_leave F.may_ready F.may_init F.may_make factory copy }
     ensures no_listener { IsErrOf result NoListener ↔ (listeners.old.items ≡ []) }
     ensures spawn { (worker : ℕ) → result ≡ Err (Spawn worker)
         → Rose (Sp.refusals spawner.old) (Sp.refusals spawner.new) × RoseBy worker (Sp.starts spawner.old) (Sp.starts spawner.new) }
-    ensures unrefused { ((worker : ℕ) → result ≡ Err (Spawn worker) → ⊥) → Sp.refusals spawner.new ≡ Sp.refusals spawner.old }
+    ensures unrefused { (MayFault (F.may_ready factory) (F.may_init factory) (vec_len listeners.old) → ⊥) → ((worker : ℕ) → result ≡ Err (Spawn worker) → ⊥) → Sp.refusals spawner.new ≡ Sp.refusals spawner.old }
     ensures startup { IfErr result (IsStartup settings.workers (vec_len listeners.old) (F.may_init factory)) }
     ensures same_count { length listeners.new.items ≡ length listeners.old.items }
     ensures before { OnErr result (Untouched Li.given Li.left Do.taken Do.count Do.served listeners.old.items listeners.new.items done.old done.new) }
-    ensures serves { IfOk result (λ report. ServesInTime Li.given Li.left Li.Link.identity (F.may_serve factory) (F.may_leave factory) Do.taken Do.count Do.served listeners.old.items listeners.new.items done.old done.new report.end
+    ensures serves { IfOk result (λ report. ServesInTime Li.given Li.left Li.Link.identity (F.may_serve factory) (F.may_leave factory) Do.taken Do.count Do.served listeners.old.items listeners.new.items done.old done.new settings.workers (MayFault (F.may_ready factory) (F.may_init factory) (vec_len listeners.old)) report.end
         (Cl.told clock.old + 1000 * settings.shutdown_timeout ≤ Cl.told clock.new)) }
     ensures commanded { IfOk result (λ report. IsTold Co.given Co.stops Co.ended commands.old commands.new report.end) }
     ensures heard { OnErr result (Gave Co.given Co.stops commands.old commands.new) }
     ensures told { IfOk result (λ report. Tells Li.rest Li.ended Li.faults settings.retry_limit listeners.old.items listeners.new.items report) }
     ensures made { IfOk result (λ report. is_stop report.end ≡ false → (token : ℕ) → token < vec_len listeners.old → F.may_make factory token) }
-    ensures started { OnOk result (RoseBy settings.workers (Sp.starts spawner.old) (Sp.starts spawner.new)) }
+    ensures started { OnOk result (Started (MayFault (F.may_ready factory) (F.may_init factory) (vec_len listeners.old)) settings.workers (Sp.starts spawner.old) (Sp.starts spawner.new)) }
 {
     if listeners.is_empty() {
         return Err(ServeError::NoListener);
@@ -73,7 +71,6 @@ where
         room,
         mut parcels,
         mut notes,
-        mut numbers,
         states,
         task,
     } = Prepared::new(alloc, settings.workers, count)?;
@@ -92,9 +89,8 @@ where
     );
     if let Some(fault) = fault {
         let worker = running.len();
-        tell_numbers(&running, &mut numbers);
         stop_all(&mut parcels);
-        wake_all::<Ho, Sp>(numbers.as_slice(), spawner);
+        wake_all::<Ho, WorkerJob<Li::Link, F>, Sp>(&running, spawner);
         join_all(rt, parcels, notes, running);
         return Err(fault.error(worker));
     }
@@ -108,7 +104,7 @@ where
         settings.shutdown_timeout,
     );
     serve_on(
-        rt, &factory, &task, acceptor, running, numbers, states, listeners, commands, clock,
-        spawner, done,
+        rt, alloc, &factory, &task, acceptor, running, states, listeners, commands, clock, spawner,
+        done,
     )
 }

@@ -1,12 +1,11 @@
 ghost use Rattle.std.specs.Prelude.{◌≡◌, ◌↔◌, ◌≤◌, ◌<◌, ◌+◌, ◌*◌, ℕ, [], false, IfOk, OnOk, OnErr, IfErr, IsErrOf, Err, length, vec_len};
-ghost use Rattle.futures.specs.declared.task.Poll.TheVariants.{Ready};
 ghost use Rattle.service_core.specs.Counts.{Rose};
 ghost use Rattle.server_run.specs.Creating.{HasMeaningOf, IsStartup};
 ghost use Rattle.server_run.specs.Report.{Tells, is_stop};
-ghost use Rattle.server_run.specs.Serving.{Untouched};
+ghost use Rattle.server_run.specs.Serving.{MayFault, Untouched};
 ghost use Rattle.server_run.specs.declared.serve_error.ServeError.TheVariants.{NoListener, Spawn};
 ghost use Rattle.server.specs.Settings.{IsInRange, default_settings};
-ghost use Rattle.server.specs.Starting.{RoseBy};
+ghost use Rattle.server.specs.Starting.{RoseBy, Started};
 ghost use Rattle.server.specs.Stopping.{Gave, IsTold, ServesInTime};
 
 use crate::builder::ServerBuilder;
@@ -62,6 +61,11 @@ impl<F> Server<F> {
     ///
     /// After an error too the replies to the commands that came until then are ready.
     ///
+    /// A worker of which a service errs and cannot be made anew is joined while the server accepts: what had ended there is handed
+    /// on, and the rest as lost by it. Another thread takes its place, with the same number; where a stop came, or none can be
+    /// started, the worker is retired. Once none is left, and no stop came, the run ends as [`End::NoWorkers`](server_run::End), and
+    /// a connection that waited is handed on as lost with no worker.
+    ///
     /// It waits for its threads, and they for the links. Of a listener that tells nothing of the links still to come (its
     /// `left` is `None`) `serves` holds little: how many entries there are, their numbers, and that each has some link as it
     /// came back, but not which link of the listener.
@@ -87,12 +91,11 @@ impl<F> Server<F> {
         <F::Factory as ServiceFactory<Li::Link>>::Error: 'static,
         <F::Factory as ServiceFactory<Li::Link>>::InitError: 'static,
         requires few { vec_len listeners.old ≤ 64 }
-        requires never_errs { (token : ℕ) (e : F.Factory.Error) → F.may_ready (factory_of self) token (Ready (Err e)) → ⊥ }
         requires clones { (copy : F) → F.is_clone (factory_of self) copy → HasMeaningOf F.may_serve F.may_leave F.may_ready F.may_init F.may_make (factory_of self) copy }
         ensures no_listener { IsErrOf result NoListener ↔ (listeners.old.items ≡ []) }
         ensures spawn { (worker : ℕ) → result ≡ Err (Spawn worker)
             → Rose (Sp.refusals spawner.old) (Sp.refusals spawner.new) × RoseBy worker (Sp.starts spawner.old) (Sp.starts spawner.new) }
-        ensures unrefused { ((worker : ℕ) → result ≡ Err (Spawn worker) → ⊥) → Sp.refusals spawner.new ≡ Sp.refusals spawner.old }
+        ensures unrefused { (MayFault (F.may_ready (factory_of self)) (F.may_init (factory_of self)) (vec_len listeners.old) → ⊥) → ((worker : ℕ) → result ≡ Err (Spawn worker) → ⊥) → Sp.refusals spawner.new ≡ Sp.refusals spawner.old }
         ensures startup { IfErr result (IsStartup (server_settings self).workers (vec_len listeners.old) (F.may_init (factory_of self))) }
         ensures same_count { length listeners.new.items ≡ length listeners.old.items }
 
@@ -101,8 +104,8 @@ impl<F> Server<F> {
 
         // Each connection that the listeners gave was handed to `done`, exactly once and with its link, as a service of its
         // listener's token ended it, or, after a stop alone, as it stood; by force only after one that was not graceful, or once
-        // the time of a graceful one was over.
-        ensures serves { IfOk result (λ report. ServesInTime Li.given Li.left Li.Link.identity (F.may_serve (factory_of self)) (F.may_leave (factory_of self)) Do.taken Do.count Do.served listeners.old.items listeners.new.items done.old done.new report.end
+        // the time of a graceful one was over. One is lost, and no worker is left, only where services may fault.
+        ensures serves { IfOk result (λ report. ServesInTime Li.given Li.left Li.Link.identity (F.may_serve (factory_of self)) (F.may_leave (factory_of self)) Do.taken Do.count Do.served listeners.old.items listeners.new.items done.old done.new (server_settings self).workers (MayFault (F.may_ready (factory_of self)) (F.may_init (factory_of self)) (vec_len listeners.old)) report.end
             (Cl.told clock.old + 1000 * (server_settings self).shutdown_timeout ≤ Cl.told clock.new)) }
 
         // It ends as stopped exactly where a stop came, or where the commands ended while it was paused.
@@ -111,7 +114,9 @@ impl<F> Server<F> {
         ensures settled { Co.unsettled commands.new ≡ false }
         ensures told { IfOk result (λ report. Tells Li.rest Li.ended Li.faults (server_settings self).retry_limit listeners.old.items listeners.new.items report) }
         ensures made { IfOk result (λ report. is_stop report.end ≡ false → (token : ℕ) → token < vec_len listeners.old → F.may_make (factory_of self) token) }
-        ensures started { OnOk result (RoseBy (server_settings self).workers (Sp.starts spawner.old) (Sp.starts spawner.new)) }
+
+        // As many threads were started as there are workers, and more only where services may fault.
+        ensures started { OnOk result (Started (MayFault (F.may_ready (factory_of self)) (F.may_init (factory_of self)) (vec_len listeners.old)) (server_settings self).workers (Sp.starts spawner.old) (Sp.starts spawner.new)) }
     {
         let Server {
             factory,

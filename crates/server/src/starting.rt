@@ -1,8 +1,8 @@
 //! How the workers are started.
-ghost use Rattle.std.specs.Prelude.{◌≡◌, ◌≢◌, ◌≤◌, ◌<◌, [], All, length, vec_capacity, OnOk, OnErr, IfOk, Err, None, Some};
+ghost use Rattle.std.specs.Prelude.{◌≡◌, ◌≢◌, ◌≤◌, ◌<◌, ℕ, [], All, length, vec_capacity, OnOk, OnErr, IfOk, Err, None, Some};
 ghost use Rattle.service_core.specs.Counts.{Rose, risen};
-ghost use Rattle.server.specs.Rows.{lines_of};
-ghost use Rattle.server.specs.Starting.{IsStarted, MayStart, RoseBy};
+ghost use Rattle.server.specs.Rows.{rows_of};
+ghost use Rattle.server.specs.Starting.{HasStarted, IsStarted, MayStart, RoseBy};
 ghost use Rattle.server.specs.declared.start_fault.StartFault.TheVariants.{Spawn};
 
 use crate::start_fault::StartFault;
@@ -31,7 +31,7 @@ where
     Sp: Spawner,
     requires may_start { MayStart F.may_serve F.may_leave F.may_ready F.may_init F.may_make F.is_clone factory.now listeners }
     requires places { ring ≤ 4096 }
-    ensures line { IfOk result (IsStarted F.may_serve F.may_leave F.may_ready F.may_init F.may_make factory.now listeners) }
+    ensures line { (count : ℕ) → IfOk result (IsStarted F.may_serve F.may_leave F.may_ready F.may_init F.may_make L.identity count factory.now listeners) }
     ensures ok { OnOk result (Sp.starts spawner.new ≡ risen (Sp.starts spawner.old)) }
     ensures err { OnErr result (Sp.starts spawner.new ≡ Sp.starts spawner.old) }
     ensures spawn { result ≡ Err Spawn → Rose (Sp.refusals spawner.old) (Sp.refusals spawner.new) }
@@ -69,7 +69,7 @@ pub(crate) fn start_workers<Ho, L, F, Sp>(
     workers: usize,
     parcels: &mut Vec<Producer<Parcel<L>>>,
     notes: &mut Vec<Consumer<Note<L>>>,
-    running: &mut Vec<Running<WorkerJob<L, F>>>,
+    running: &mut Vec<Option<Running<WorkerJob<L, F>>>>,
 ) -> Option<StartFault>
 where
     Ho: Host + 'static,
@@ -82,7 +82,7 @@ where
     requires places { ring ≤ 4096 }
     requires none { (parcels.old.items ≡ []) × (notes.old.items ≡ []) × (running.old.items ≡ []) }
     requires room { (workers ≤ vec_capacity parcels.old) × (workers ≤ vec_capacity notes.old) × (workers ≤ vec_capacity running.old) }
-    ensures started { All (IsStarted F.may_serve F.may_leave F.may_ready F.may_init F.may_make factory.now listeners) (lines_of parcels.new.items notes.new.items running.new.items) }
+    ensures started { All (HasStarted F.may_serve F.may_leave F.may_ready F.may_init F.may_make L.identity workers factory.now listeners) (rows_of parcels.new.items notes.new.items running.new.items) }
     ensures as_many { (length parcels.new.items ≡ length running.new.items) × (length notes.new.items ≡ length running.new.items) }
     ensures begun { RoseBy (length running.new.items) (Sp.starts spawner.old) (Sp.starts spawner.new) }
     ensures all { result ≡ None → length running.new.items ≡ workers }
@@ -100,7 +100,7 @@ where
                 } = line;
                 parcels.push_reserved(producer);
                 notes.push_reserved(consumer);
-                running.push_reserved(one);
+                running.push_reserved(Some(one));
             }
             Err(fault) => return Some(fault),
         }

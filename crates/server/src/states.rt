@@ -1,10 +1,9 @@
-//! What is told of the listeners, and of the jobs.
+//! What is told of the listeners.
 ghost use Rattle.std.specs.Prelude.{◌≡◌, ◌≤◌, ℕ, [], length, vec_len, vec_capacity, slice_get, IfSome};
 ghost use Rattle.server_acceptor.specs.Acceptors.{core_of, listeners_of, retry_limit_of};
 ghost use Rattle.server_acceptor.specs.States.{IsStateOf};
 
 use server_acceptor::Acceptor;
-use server_jobs::{Job, Running};
 use server_run::ListenerState;
 use service_core::Link;
 
@@ -22,15 +21,5 @@ pub(crate) fn tell_states<L: Link>(
 {
     for token in 0..listeners {
         states.push_reserved(acceptor.listener_state(token));
-    }
-}
-
-// The numbers of jobs that run.
-pub(crate) fn tell_numbers<J: Job>(running: &Vec<Running<J>>, numbers: &mut Vec<usize>)
-    requires none { numbers.old.items ≡ [] }
-    requires room { length running.now.items ≤ vec_capacity numbers.old }
-{
-    for w in 0..running.len() {
-        numbers.push_reserved(running[w].number());
     }
 }

@@ -19,6 +19,7 @@ use Rattle.server_core.specs.declared.event.Event.TheVariants.{Command, Notice, 
 use Rattle.server_run.specs.Delivery.{HasEnded, given_at, rest_at}
 use Rattle.server_run.specs.Listener.{Mark, fails, gives, in_a_row}
 use Rattle.server_run.specs.declared.entry.Entry.{Entry}
+use Rattle.server_acceptor.proofs.PutSteps.{puts_same}
 use Rattle.server_acceptor.proofs.Giving.{adds_none}
 use Rattle.server_jobs.specs.declared.waiting.Waiting.{Waiting}
 use Rattle.server_jobs.specs.declared.note.Note.TheVariants.{Ready as ReadyNote}
@@ -160,7 +161,7 @@ module _ {Li L : Type 0} (given : Li → ℕ) (left : Li → Option (List L)) (r
     (never_falls : given_at faults before t ≤ given_at faults after t)
     (only : AsksOnly a b) (logs : Logs a.core b.core a.events.items b.events.items)
     (failed_others : (v : ℕ) → v ≢ t → slice_index_or b.failed.items v None ≡ slice_index_or a.failed.items v None)
-    (carries : (first : List Li) (entries : List (Entry L)) → Carries given left identity first before a entries → Carries given left identity first after b entries)
+    (carries : (none_left : Bool) (first : List Li) (entries : List (Entry L)) → Carries given left identity none_left first before a entries → Carries given left identity none_left first after b entries)
     (may : MayAsk a) where
   told_on : (w : ℕ) → HasTold a w → HasTold b w
   told_on w told =
@@ -217,68 +218,72 @@ module _ {Li L : Type 0} (given : Li → ℕ) (left : Li → Option (List L)) (r
         more = es;
         appended = added;
         does = record {
-          logged = record {
-            allowed = subst (λ xs. AllAllowed a.core xs) more_is logs.allowed;
-            of_use = subst (λ xs. AllOfUse a.core xs) more_is logs.of_use;
-            core = core_is;
-            got = λ v. elim (cases_eq v t) [
-              | inl same ↦ rw same got
-              | inr other ↦ omega (arith, at_other given v other, got_other v other)
-            ];
-            failed = λ v some. elim (cases_eq v t) [
-              | inl same ↦ subst (λ x. Rose (given_at faults before x) (given_at faults after x)) (sym same) (failed (subst (λ x. 0 < count_by (is_failed x) es) same some))
-              | inr other ↦ absurd (omega (arith, some, failed_other v other))
-            ];
-            marked = λ v. elim (cases_eq v t) [
-              | inl same ↦ rw same marked
-              | inr other ↦ subst (λ o. option_and_then rest o ≡ option_map (λ marks. marks_of v es ++ marks) (rest_at rest after v)) (asks_at.others v other)
-                  (marked_none (rest_at rest after v) (marks_of v es) (none_other v other))
-            ];
-            failures = λ v. elim (cases_eq v t) [
-              | inl same ↦ rw same failures
-              | inr other ↦ row_none (slice_index a.core.failures v) (slice_index b.core.failures v) (marks_of v es) (none_other v other) (others.failures v other)
-            ];
-            sent_on = λ w. omega (arith, ap (λ ps. count_put identity ps.items w) only.parcels, none_of (is_sent w) t refl refl refl es are);
-            back = λ w. omega (arith, ap (λ ns. count_back identity ns.items w) only.notes, none_of (is_back w) t refl refl refl es are);
+          acts = record {
+            logged = record {
+              allowed = subst (λ xs. AllAllowed a.core xs) more_is logs.allowed;
+              core = core_is;
+              got = λ v. elim (cases_eq v t) [
+                | inl same ↦ rw same got
+                | inr other ↦ omega (arith, at_other given v other, got_other v other)
+              ];
+              failed = λ v some. elim (cases_eq v t) [
+                | inl same ↦ subst (λ x. Rose (given_at faults before x) (given_at faults after x)) (sym same) (failed (subst (λ x. 0 < count_by (is_failed x) es) same some))
+                | inr other ↦ absurd (omega (arith, some, failed_other v other))
+              ];
+              marked = λ v. elim (cases_eq v t) [
+                | inl same ↦ rw same marked
+                | inr other ↦ subst (λ o. option_and_then rest o ≡ option_map (λ marks. marks_of v es ++ marks) (rest_at rest after v)) (asks_at.others v other)
+                    (marked_none (rest_at rest after v) (marks_of v es) (none_other v other))
+              ];
+              failures = λ v. elim (cases_eq v t) [
+                | inl same ↦ rw same failures
+                | inr other ↦ row_none (slice_index a.core.failures v) (slice_index b.core.failures v) (marks_of v es) (none_other v other) (others.failures v other)
+              ];
+              sent_on = λ w. omega (arith, ap (λ ps. count_put identity ps.items w) only.parcels, none_of (is_sent w) t refl refl refl es are);
+              back = λ w. omega (arith, ap (λ ns. count_back identity ns.items w) only.notes, none_of (is_back w) t refl refl refl es are);
+            };
+            passes = record {
+              more = [];
+              adds = adds_none taken count served d fits;
+              founded = All-nil _;
+              carries = λ none_left is first entries before_this. subst (λ xs. Carries given left identity none_left first after b xs) (sym (append-nil entries)) (carries none_left first entries before_this);
+            };
+            awaits = record {
+              stays_ready = λ r. ready_still;
+              early = λ lacks. absurd (let e : false ≡ true = sym lacks ∙ ready_still in cc);
+              noted = λ n. subst (λ rs. (w : ℕ) → slice_index_or rs.items w false ≡ true → IfSome (slice_get (notes_of b) w) (λ c. Contains (received c) ReadyNote)) (sym only.ready)
+                  (subst (λ ns. (w : ℕ) → slice_index_or (ready_of a) w false ≡ true → IfSome (slice_get ns.items w) (λ c. Contains (received c) ReadyNote)) (sym only.notes) n);
+            };
+            tells = record {
+              ends = λ v opened_then now. elim (cases_eq v t) [
+                | inl same ↦ subst (λ x. (HasEnded ended after x × (slice_index b.core.failures x ≢ a.retry_limit)) ⊎ ((slice_index b.core.failures x ≡ a.retry_limit) × Rose (given_at faults before x) (given_at faults after x)))
+                    (sym same) (ends (subst (λ x. slice_index_or b.core.ended x false ≡ true) same now))
+                | inr other ↦ absurd (true≢false (sym now ∙ others.ended v false other ∙ opened_then))
+              ];
+              stays = λ v is.
+                  let other : v ≢ t = λ same. true≢false (sym is ∙ ap (λ x. slice_index_or a.core.ended x false) same ∙ opened_false a.core t opened) in
+                  (asks_at.others v other, others.failures v other, others.ended v false other ∙ is);
+              rises = λ v. elim (cases_eq v t) [
+                | inl same ↦ rw same never_falls
+                | inr other ↦ omega (arith, at_other faults v other)
+              ];
+              marks = λ v has. elim (cases_eq v t) [
+                | inl same ↦ inr (subst (λ x. (slice_index_or b.core.ended x false ≡ true) × (slice_index b.core.failures x ≢ a.retry_limit)) (sym same) (marks (subst (λ x. HasEnded ended after x) same has)))
+                | inr other ↦ inl (subst (λ o. IfSome o (λ li. ended li ≡ true)) (asks_at.others v other) has)
+              ];
+            };
+            rings = record { parcels = ap (λ v. map ring_in v.items) only.parcels; notes = ap (λ v. map ring_out v.items) only.notes };
+            puts = λ w. puts_same a b w only.parcels;
+            receives = λ w. record { more = []; came = ap (λ ns. received_at ns.items w) only.notes ∙ sym (append-nil _) };
+            as_many = asks_at.as_many;
+            workers = ap (λ (xs : List ℕ). length xs) only.out;
+            listeners = others.as_many;
+            limit = only.retry_limit;
+            max = only.limit;
+            lacks = λ is. only.lacks_room ∙ is;
+            stops = λ is. ap (λ o. is_some o) only.stopping ∙ is;
           };
-          passes = record {
-            more = [];
-            adds = adds_none taken count served d fits;
-            founded = All-nil _;
-            carries = λ first entries before_this. subst (λ xs. Carries given left identity first after b xs) (sym (append-nil entries)) (carries first entries before_this);
-          };
-          awaits = record {
-            stays_ready = λ r. ready_still;
-            early = λ lacks. absurd (let e : false ≡ true = sym lacks ∙ ready_still in cc);
-            noted = λ n. subst (λ rs. (w : ℕ) → slice_index_or rs.items w false ≡ true → IfSome (slice_get (notes_of b) w) (λ c. Contains (received c) ReadyNote)) (sym only.ready)
-                (subst (λ ns. (w : ℕ) → slice_index_or (ready_of a) w false ≡ true → IfSome (slice_get ns.items w) (λ c. Contains (received c) ReadyNote)) (sym only.notes) n);
-          };
-          tells = record {
-            ends = λ v opened_then now. elim (cases_eq v t) [
-              | inl same ↦ subst (λ x. (HasEnded ended after x × (slice_index b.core.failures x ≢ a.retry_limit)) ⊎ ((slice_index b.core.failures x ≡ a.retry_limit) × Rose (given_at faults before x) (given_at faults after x)))
-                  (sym same) (ends (subst (λ x. slice_index_or b.core.ended x false ≡ true) same now))
-              | inr other ↦ absurd (true≢false (sym now ∙ others.ended v false other ∙ opened_then))
-            ];
-            stays = λ v is.
-                let other : v ≢ t = λ same. true≢false (sym is ∙ ap (λ x. slice_index_or a.core.ended x false) same ∙ opened_false a.core t opened) in
-                (asks_at.others v other, others.failures v other, others.ended v false other ∙ is);
-            rises = λ v. elim (cases_eq v t) [
-              | inl same ↦ rw same never_falls
-              | inr other ↦ omega (arith, at_other faults v other)
-            ];
-            marks = λ v has. elim (cases_eq v t) [
-              | inl same ↦ inr (subst (λ x. (slice_index_or b.core.ended x false ≡ true) × (slice_index b.core.failures x ≢ a.retry_limit)) (sym same) (marks (subst (λ x. HasEnded ended after x) same has)))
-              | inr other ↦ inl (subst (λ o. IfSome o (λ li. ended li ≡ true)) (asks_at.others v other) has)
-            ];
-          };
-          rings = record { parcels = ap (λ v. map ring_in v.items) only.parcels; notes = ap (λ v. map ring_out v.items) only.notes };
-          receives = λ w. record { more = []; came = ap (λ ns. received_at ns.items w) only.notes ∙ sym (append-nil _) };
-          as_many = asks_at.as_many;
-          workers = ap (λ (xs : List ℕ). length xs) only.out;
-          listeners = others.as_many;
-          limit = only.retry_limit;
-          lacks = λ is. only.lacks_room ∙ is;
-          stops = λ is. ap (λ o. is_some o) only.stopping ∙ is;
+          of_use = subst (λ xs. AllOfUse a.core xs) more_is logs.of_use;
         };
       };
       asks = record {

@@ -1,5 +1,5 @@
 -- That what came from the listeners is carried on, step by step.
-use Rattle.std.proofs.Common.{◌≡◌, ◌≢◌, ◌⊎◌, ℕ, zero, suc, ◌+◌, ◌-◌, ◌==◌, ◌&&◌, ◌<◌, true, false, cond, List, [], ◌∷◌, ◌++◌, length, map, drop, sum_by, All, Any, Contains, Option, IfSome, refl, sym, ap, ap₂, subst, ◌∙◌, arith, inl, inr, get_or-set_same, get_or-set_other}
+use Rattle.std.proofs.Common.{◌≡◌, ◌≢◌, ◌⊎◌, ℕ, zero, suc, ◌+◌, ◌-◌, ◌==◌, ◌&&◌, ◌<◌, Bool, true, false, cond, List, [], ◌∷◌, ◌++◌, length, map, drop, sum_by, All, Any, Contains, Option, IfSome, refl, sym, ap, ap₂, subst, ◌∙◌, arith, inl, inr, get_or-set_same, get_or-set_other}
 use Rattle.std.specs.Prelude.{slice_set, slice_index, slice_index_or}
 use Rattle.std.specs.Option.{option_map, option_map_or}
 use Rattle.std.proofs.lemmas.Bool.{cases_eq}
@@ -10,6 +10,7 @@ use Rattle.std.proofs.lemmas.List.Elements.{All-nil, All-cons, All-head, All-tai
 use Rattle.rtrb.specs.Ring.{received, sent}
 use Rattle.rtrb.specs.declared.producer.Producer.{Producer}
 use Rattle.service_core.specs.Link.{Identity}
+use Rattle.server_core.specs.declared.event.Event.{Event}
 use Rattle.server_run.specs.Delivery.{given_at, left_at, once_below, rise}
 use Rattle.server_run.specs.declared.entry.Entry.{Entry}
 use Rattle.server_jobs.specs.Cards.{Card, of_entry, of_parcel}
@@ -17,7 +18,7 @@ use Rattle.server_acceptor.specs.Carrying.{Carries, IsInPlace, ParcelIsInPlace, 
 use Rattle.server_acceptor.proofs.Giving.{first_left, once_below-more}
 use Rattle.server_acceptor.specs.AskingListeners.{AsksOnly, TakesUp}
 use Rattle.server_acceptor.specs.Listening.{AsksAt, Gives, GivesNone}
-use Rattle.server_acceptor.specs.Handing.{Hands}
+use Rattle.server_acceptor.specs.Handing.{HandsBy}
 use Rattle.server_acceptor.specs.Notes.{count_back}
 use Rattle.server_acceptor.specs.Placing.{parcel_of, IsPlaced, KeepsSent, PutsAt, Stays, WasSent}
 use Rattle.server_acceptor.specs.Rings.{count_put, ring_in}
@@ -136,9 +137,9 @@ module _ {L A P : Type 0} (Q : Parcel L → Type 0) where
       (All-set (All Q) (map (λ p. sent p) ps) w (slice_index_or (map (λ p. sent p) ps) w [] ++ item ∷ [])
       (All-push Q (slice_index_or (map (λ p. sent p) ps) w []) item (all_index Q (map (λ p. sent p) ps) w before) q) before))
 
-module _ {Li L : Type 0} (given : Li → ℕ) (left : Li → Option (List L)) (identity : L → Identity) (first now : List Li) where
+module _ {Li L : Type 0} (given : Li → ℕ) (left : Li → Option (List L)) (identity : L → Identity) (none_left : Bool) (first now : List Li) where
   -- a connection went from where it waits to a worker
-  sent_on : (a b : Acceptor L) (entries : List (Entry L)) (w : ℕ) → w < length a.core.out → Stays a b → WasSent a b w → Carries given left identity first now a entries → Carries given left identity first now b entries
+  sent_on : (a b : Acceptor L) (entries : List (Entry L)) (w : ℕ) → w < length a.core.out → Stays a b → WasSent a b w → Carries given left identity none_left first now a entries → Carries given left identity none_left first now b entries
   sent_on a b entries w within s p c =
       let weigh : (h : Card → ℕ) → (put identity h b.parcels.items + in_waiting identity h b.waiting) + let_gone identity h c.gone ≡ (put identity h a.parcels.items + in_waiting identity h a.waiting) + let_gone identity h c.gone =
       λ h. omega (arith, put_more identity h a.parcels.items b.parcels.items w (parcel_of p.placed) p.rings, ap (in_waiting identity h) p.was, ap (in_waiting identity h) p.waiting) in
@@ -165,7 +166,7 @@ module _ {Li L : Type 0} (given : Li → ℕ) (left : Li → Option (List L)) (i
 
   -- nothing moved
   kept_on : (a b : Acceptor L) (entries : List (Entry L)) → Stays a b → KeepsSent a.parcels.items b.parcels.items → b.waiting ≡ a.waiting → b.core.out ≡ a.core.out
-      → Carries given left identity first now a entries → Carries given left identity first now b entries
+      → Carries given left identity none_left first now a entries → Carries given left identity none_left first now b entries
   kept_on a b entries s k waiting out c =
       let weigh : (h : Card → ℕ) → (put identity h b.parcels.items + in_waiting identity h b.waiting) + let_gone identity h c.gone ≡ (put identity h a.parcels.items + in_waiting identity h a.waiting) + let_gone identity h c.gone =
       λ h. omega (arith, put_kept identity h a.parcels.items b.parcels.items k, ap (in_waiting identity h) waiting) in
@@ -185,14 +186,14 @@ module _ {Li L : Type 0} (given : Li → ℕ) (left : Li → Option (List L)) (i
         out = λ v. count_kept identity a.parcels.items b.parcels.items v k ∙ c.out v ∙ sym (ap₂ (λ n o. count_back identity n.items v + slice_index o v) s.notes out);
       }
 
-  pub carries_placed : (a b : Acceptor L) (entries : List (Entry L)) (placed : Placed) → Stays a b → IsPlaced a b placed → Carries given left identity first now a entries → Carries given left identity first now b entries
+  pub carries_placed : (a b : Acceptor L) (entries : List (Entry L)) (placed : Placed) → Stays a b → IsPlaced a b placed → Carries given left identity none_left first now a entries → Carries given left identity none_left first now b entries
   carries_placed a b entries (Sent w) s p c = sent_on a b entries w (omega (arith, p.rings.inside, a.workers.0)) s p c
   carries_placed a b entries Waiting s p c = kept_on a b entries s p.rings p.waiting p.out c
   carries_placed a b entries Nothing s p c = kept_on a b entries s (record { rings = ap (λ v. map ring_in v.items) p.parcels; sent_on = ap (λ v. map (λ q. sent q) v.items) p.parcels }) p.waiting (ap (λ u. u.out) p.core) c
 
   -- connections came back
-  pub carries_handed : {D : Type 0} (taken : D → Option (List (Entry L))) (count served : D → ℕ) (a b : Acceptor L) (old new : D) (entries : List (Entry L))
-      → (hands : Hands identity taken count served a b old new) → Carries given left identity first now a entries → Carries given left identity first now b (entries ++ hands.entries)
+  pub carries_handed : {D : Type 0} (taken : D → Option (List (Entry L))) (count served : D → ℕ) (a b : Acceptor L) (old new : D) {xs ys : List Event} (entries : List (Entry L))
+      → (hands : HandsBy identity taken count served a b old new xs ys) → Carries given left identity none_left first now a entries → Carries given left identity none_left first now b (entries ++ hands.entries)
   carries_handed taken count served a b old new entries k c =
       let weigh : (h : Card → ℕ) → (put identity h b.parcels.items + in_waiting identity h b.waiting) + let_gone identity h c.gone ≡ (put identity h a.parcels.items + in_waiting identity h a.waiting) + let_gone identity h c.gone =
       λ h. ap₂ (λ v o. (put identity h v.items + in_waiting identity h o) + let_gone identity h c.gone) k.parcels k.waiting in
@@ -223,7 +224,7 @@ same_rise given first now then t a e v = elim (cases_eq v t) [
   | inr other ↦ ap (λ o. option_map_or given o 0) (a.others v other)
 ]
 
-module _ {Li L : Type 0} (given : Li → ℕ) (left : Li → Option (List L)) (identity : L → Identity) (first now then : List Li) (t : ℕ) where
+module _ {Li L : Type 0} (given : Li → ℕ) (left : Li → Option (List L)) (identity : L → Identity) (none_left : Bool) (first now then : List Li) (t : ℕ) where
   same_left : GivesNone given left now then t → (v : ℕ) → left_at left then v ≡ left_at left now v
   same_left n v = elim (cases_eq v t) [
     | inl same ↦ rw same n.left_same
@@ -232,7 +233,7 @@ module _ {Li L : Type 0} (given : Li → ℕ) (left : Li → Option (List L)) (i
 
   -- it gave none
   pub carries_none_given : (a b : Acceptor L) (entries : List (Entry L)) → GivesNone given left now then t → AsksOnly a b → b.waiting ≡ a.waiting → b.serial ≡ a.serial → b.places ≡ a.places
-      → Carries given left identity first now a entries → Carries given left identity first then b entries
+      → Carries given left identity none_left first now a entries → Carries given left identity none_left first then b entries
   carries_none_given a b entries n s waiting serial places c =
       let weigh : (h : Card → ℕ) → (put identity h b.parcels.items + in_waiting identity h b.waiting) + let_gone identity h c.gone ≡ (put identity h a.parcels.items + in_waiting identity h a.waiting) + let_gone identity h c.gone =
       λ h. ap₂ (λ v o. (put identity h v.items + in_waiting identity h o) + let_gone identity h c.gone) s.parcels waiting in
@@ -256,7 +257,7 @@ module _ {Li L : Type 0} (given : Li → ℕ) (left : Li → Option (List L)) (i
 
   -- it gave a link, which waits
   pub carries_got : (a b : Acceptor L) (entries : List (Entry L)) (link : L) → Gives given left now then t link → AsksOnly a b → TakesUp a b t link
-      → Carries given left identity first now a entries → Carries given left identity first then b entries
+      → Carries given left identity none_left first now a entries → Carries given left identity none_left first then b entries
   carries_got a b entries link n s u c =
       let weigh : (h : Card → ℕ) → (put identity h b.parcels.items + in_waiting identity h b.waiting) + let_gone identity h c.gone ≡ ((put identity h a.parcels.items + in_waiting identity h a.waiting) + let_gone identity h c.gone) + h (record { serial = a.serial; token = t; place = slice_index_or a.places.items t 0; identity = identity link }) =
       λ h. omega (arith, ap (λ v. put identity h v.items) s.parcels, ap (in_waiting identity h) u.waiting, ap (in_waiting identity h) u.none) in

@@ -1,11 +1,8 @@
 -- What commands make of the core and the acceptor.
-use Rattle.std.proofs.Common.{◌≡◌, ◌⊎◌, ◌^◌, ◌<◌, ◌≤◌, ◌++◌, ◌∷◌, [], ℕ, suc, ◌+◌, Bool, true, false, cond, List, length, map, All, Any, Contains, Option, Some, None, IfSome, refl, sym, ◌∙◌, ap, ap₂, arith, subst, inl, inr, append_assoc, append-nil, length-append}
-use Rattle.std.specs.Prelude.{count_by, is_some, slice_get, slice_index, slice_index_or, sum}
-use Rattle.std.specs.List.{list_all}
+use Rattle.std.proofs.Common.{◌≡◌, ◌^◌, ◌<◌, ◌≤◌, ◌++◌, ◌∷◌, [], ℕ, suc, ◌+◌, Bool, true, false, cond, List, length, Option, Some, None, refl, sym, ◌∙◌, ap, ap₂, arith, subst, inl, inr, append_assoc, append-nil, length-append}
+use Rattle.std.specs.Prelude.{count_by, is_some, sum}
 use Rattle.std.specs.Option.{option_map}
-use Rattle.std.proofs.lemmas.List.Elements.{All-append, All-cons, All-contains_itself, All-nil, Contains-append_left, Contains-append_right}
 use Rattle.std.proofs.lemmas.List.Sums.{sum_by-append}
-use Rattle.rtrb.specs.Ring.{received, sent}
 use Rattle.service_core.specs.Link.{Identity}
 use Rattle.server_core.specs.Core.{Core, IsKept, held, step, first_of}
 use Rattle.server_core.specs.Runs.{AllAllowed, after_all}
@@ -13,28 +10,19 @@ use Rattle.server_core.specs.declared.command.Command.{Command}
 use Rattle.server_core.specs.declared.command.Command.TheVariants.{Pause, Resume, Stop}
 use Rattle.server_core.specs.declared.event.Event.{Event}
 use Rattle.server_core.specs.declared.event.Event.TheVariants.{Command as CommandOf}
-use Rattle.server_run.specs.Delivery.{once_below, rest_at}
-use Rattle.server_run.specs.Done.{Adds}
 use Rattle.server_run.specs.Listener.{Mark}
-use Rattle.server_run.specs.Outcome.{is_stopped}
-use Rattle.server_run.specs.Serving.{Untouched}
 use Rattle.server_run.specs.declared.entry.Entry.{Entry}
-use Rattle.server_jobs.specs.Cards.{Card, of_entry}
-use Rattle.server_jobs.specs.declared.note.Note.TheVariants.{Back, Ready}
+use Rattle.server_run.specs.declared.outcome.Outcome.TheVariants.{Stopped}
 use Rattle.server_jobs.specs.declared.waiting.Waiting.{Waiting}
-use Rattle.server_acceptor.specs.Accepting.{Does, Proceeds, is_back, is_command, is_failed, is_got, is_sent, marks_of, received_at, refused}
-use Rattle.server_acceptor.specs.Acceptors.{all_ready, events_of}
-use Rattle.server_acceptor.specs.Carrying.{Carries, IsInPlace, IsLetGo, ParcelIsInPlace, came_back, each, has_place, has_serial, in_waiting, let_gone, put}
-use Rattle.server_acceptor.specs.Commanding.{KeepsBeside, KeepsStop, LetsGo, Obeys, entry_of, events_for, first_stop, goes_at, gone_of, stop_behind, waits_behind}
+use Rattle.server_acceptor.specs.Accepting.{Does, Proceeds, is_back, is_command, is_failed, is_got, is_sent, refused}
+use Rattle.server_acceptor.specs.Acceptors.{events_of}
+use Rattle.server_acceptor.specs.Commanding.{KeepsBeside, KeepsStop, LetsGo, Obeys, events_for, first_stop, goes_at, gone_of, stop_behind, waits_behind}
 use Rattle.server_acceptor.specs.Logging.{AllOfUse}
-use Rattle.server_acceptor.specs.Notes.{count_back}
-use Rattle.server_acceptor.specs.Rings.{count_put, ring_in, ring_out}
 use Rattle.server_acceptor.specs.declared.acceptor.Acceptor.{Acceptor}
 use Rattle.server_acceptor.specs.declared.stop.Stop.{Stop as FirstStop}
 use Rattle.server_acceptor.proofs.Giving.{adds_none}
-use Rattle.server_acceptor.proofs.HandsDoes.{tells_same}
+use Rattle.server_acceptor.proofs.CoreSteps.{moves_acts}
 use Rattle.server_acceptor.proofs.LogSteps.{after_append, stops_later}
-use Rattle.server_acceptor.proofs.MarkSteps.{marked_none, marks_without, row_none}
 use Rattle.server_acceptor.proofs.NoteSteps.{adds_trans}
 
 -- ---- the core
@@ -157,35 +145,35 @@ pub behind_waits : {L : Type 0} (s : Core) (c : Command) (waiting : Option (Wait
 behind_waits s c waiting is = one_waiting s c ∙ ap (waits_behind c) is ∙ behind_waits_some c waiting
 
 -- what is let go was counted as waiting
-pub gone_counted : {L : Type 0} (c : Command) (waiting : Option (Waiting L)) → length (gone_of (goes_at c waiting)) + held (option_map (λ (w : Waiting L). w.token) (waits_behind c waiting)) ≡ held (option_map (λ (w : Waiting L). w.token) waiting)
+pub gone_counted : {L : Type 0} (c : Command) (waiting : Option (Waiting L)) → length (gone_of (Stopped false) (goes_at c waiting)) + held (option_map (λ (w : Waiting L). w.token) (waits_behind c waiting)) ≡ held (option_map (λ (w : Waiting L). w.token) waiting)
 gone_counted Pause waiting = omega arith
 gone_counted Resume waiting = omega arith
 gone_counted (Stop graceful) None = omega arith
 gone_counted (Stop graceful) (Some w) = omega arith
 
 pub gone_few : {L : Type 0} (s : Core) (c : Command) (waiting : Option (Waiting L)) (spare : ℕ) → s.waiting ≡ option_map (λ (w : Waiting L). w.token) waiting → sum s.out + held s.waiting ≤ spare
-    → length (gone_of (goes_at c waiting)) ≤ spare
+    → length (gone_of (Stopped false) (goes_at c waiting)) ≤ spare
 gone_few s c waiting spare is fits = omega (arith, fits, ap held is, gone_counted c waiting)
 
 pub gone_spare : {L : Type 0} (s t : Core) (c : Command) (waiting : Option (Waiting L)) (spare left : ℕ) → s.waiting ≡ option_map (λ (w : Waiting L). w.token) waiting → t ≡ step s (CommandOf c)
-    → sum s.out + held s.waiting ≤ spare → left + length (gone_of (goes_at c waiting)) ≡ spare → sum t.out + held t.waiting ≤ left
+    → sum s.out + held s.waiting ≤ spare → left + length (gone_of (Stopped false) (goes_at c waiting)) ≡ spare → sum t.out + held t.waiting ≤ left
 gone_spare s t c waiting spare left is now fits rest =
     omega (arith, fits, rest, ap held is, gone_counted c waiting, ap (λ (u : Core). held u.waiting) now, ap held (behind_waits s c waiting is), ap (λ (u : Core). sum u.out) now, ap (λ xs. sum xs) (one_out s c))
 
 -- nothing is let go where nothing was given
-goes_none : {L : Type 0} (c : Command) (waiting : Option (Waiting L)) → waiting ≡ None → gone_of (goes_at c waiting) ≡ []
+goes_none : {L : Type 0} (c : Command) (waiting : Option (Waiting L)) → waiting ≡ None → gone_of (Stopped false) (goes_at c waiting) ≡ []
 goes_none Pause waiting is = refl
 goes_none Resume waiting is = refl
-goes_none (Stop graceful) waiting is = ap (λ o. gone_of o) is
+goes_none (Stop graceful) waiting is = ap (λ o. gone_of (Stopped false) o) is
 
 pub held_none : {L : Type 0} (waiting : Option (Waiting L)) → held (option_map (λ (w : Waiting L). w.token) waiting) ≡ 0 → waiting ≡ None
 held_none None none = refl
 held_none (Some w) none = absurd (omega (arith, none))
 
-pub none_gone : {L : Type 0} (s : Core) (c : Command) (waiting : Option (Waiting L)) → IsKept s → s.waiting ≡ option_map (λ (w : Waiting L). w.token) waiting → s.given ≡ 0 → gone_of (goes_at c waiting) ≡ []
+pub none_gone : {L : Type 0} (s : Core) (c : Command) (waiting : Option (Waiting L)) → IsKept s → s.waiting ≡ option_map (λ (w : Waiting L). w.token) waiting → s.given ≡ 0 → gone_of (Stopped false) (goes_at c waiting) ≡ []
 none_gone s c waiting k is none = goes_none c waiting (held_none waiting (omega (arith, none, k.balance, ap (λ o. held o) is)))
 
-pub goes : {L : Type 0} (a b : Acceptor L) (c : Command) → b.waiting ≡ waits_behind c a.waiting → b.core ≡ step a.core (CommandOf c) → LetsGo a b (gone_of (goes_at c a.waiting))
+pub goes : {L : Type 0} (a b : Acceptor L) (c : Command) → b.waiting ≡ waits_behind c a.waiting → b.core ≡ step a.core (CommandOf c) → LetsGo a b (gone_of (Stopped false) (goes_at c a.waiting))
 goes a b Pause waiting core = inl (waiting, refl)
 goes a b Resume waiting core = inl (waiting, refl)
 goes a b (Stop graceful) waiting core = inr (waiting, refl, ap (λ (s : Core). is_some s.stopping) core ∙ some a.core.stopping)
@@ -218,9 +206,9 @@ module _ {L : Type 0} where
 
   lets_trans : (a b c : Acceptor L) (xs ys : List (Entry L)) → (is_some b.core.stopping ≡ true → is_some c.core.stopping ≡ true) → LetsGo a b xs → LetsGo b c ys → LetsGo a c (xs ++ ys)
   lets_trans a b c xs ys stops (inl p) (inl q) = inl (q.0 ∙ p.0, ap₂ (λ u v. u ++ v) p.1 q.1)
-  lets_trans a b c xs ys stops (inl p) (inr q) = inr (q.0, ap₂ (λ u v. u ++ v) p.1 (q.1 ∙ ap (λ o. gone_of o) p.0), q.2)
-  lets_trans a b c xs ys stops (inr p) (inl q) = inr (q.0 ∙ p.0, ap₂ (λ u v. u ++ v) p.1 q.1 ∙ append-nil (gone_of a.waiting), stops p.2)
-  lets_trans a b c xs ys stops (inr p) (inr q) = inr (q.0, ap₂ (λ u v. u ++ v) p.1 (q.1 ∙ ap (λ o. gone_of o) p.0) ∙ append-nil (gone_of a.waiting), q.2)
+  lets_trans a b c xs ys stops (inl p) (inr q) = inr (q.0, ap₂ (λ u v. u ++ v) p.1 (q.1 ∙ ap (λ o. gone_of (Stopped false) o) p.0), q.2)
+  lets_trans a b c xs ys stops (inr p) (inl q) = inr (q.0 ∙ p.0, ap₂ (λ u v. u ++ v) p.1 q.1 ∙ append-nil (gone_of (Stopped false) a.waiting), stops p.2)
+  lets_trans a b c xs ys stops (inr p) (inr q) = inr (q.0, ap₂ (λ u v. u ++ v) p.1 (q.1 ∙ ap (λ o. gone_of (Stopped false) o) p.0) ∙ append-nil (gone_of (Stopped false) a.waiting), q.2)
 
   module _ {D : Type 0} (taken : D → Option (List (Entry L))) (count served : D → ℕ) where
     pub obeys_none : (a : Acceptor L) (d : D) (now : ℕ) → (count d < 2 ^ 64) × (served d < 2 ^ 64) → Obeys taken count served a a d d [] now
@@ -253,125 +241,28 @@ module _ {L : Type 0} where
     pub obeys_workers : (a b : Acceptor L) (d e : D) (cs : List Command) (now : ℕ) → Obeys taken count served a b d e cs now → length b.core.out ≡ length a.core.out
     obeys_workers a b d e cs now o = ap (λ (s : Core). length s.out) o.core ∙ ap (λ xs. length xs) (all_out a.core cs)
 
--- ---- what they let go is carried on
-weigh_gone : {L : Type 0} (identity : L → Identity) (h : Card → ℕ) (waiting : Option (Waiting L)) → let_gone identity h (gone_of waiting) ≡ in_waiting identity h waiting
-weigh_gone identity h None = refl
-weigh_gone identity h (Some w) = omega arith
-
-let_weigh : {L : Type 0} (identity : L → Identity) (h : Card → ℕ) (a b : Acceptor L) (gone : List (Entry L)) → LetsGo a b gone → in_waiting identity h b.waiting + let_gone identity h gone ≡ in_waiting identity h a.waiting
-let_weigh identity h a b gone (inl p) = omega (arith, ap (in_waiting identity h) p.0, ap (let_gone identity h) p.1)
-let_weigh identity h a b gone (inr p) = omega (arith, ap (in_waiting identity h) p.0, ap (let_gone identity h) p.1, weigh_gone identity h a.waiting)
-
-module _ {Li L : Type 0} (left : Li → Option (List L)) (first : List Li) where
-  gone_in_place : (waiting : Option (Waiting L)) → IfSome waiting (λ w. IsInPlace left first w.token w.place w.link) → All (IsLetGo left first) (gone_of waiting)
-  gone_in_place None waits = All-nil _
-  gone_in_place (Some w) waits = All-cons (IsLetGo left first) (entry_of w) [] (refl, waits) (All-nil _)
-
-  let_in_place : (a b : Acceptor L) (gone : List (Entry L)) → LetsGo a b gone → IfSome a.waiting (λ w. IsInPlace left first w.token w.place w.link) → All (IsLetGo left first) gone
-  let_in_place a b gone (inl p) waits = subst (All (IsLetGo left first)) (sym p.1) (All-nil _)
-  let_in_place a b gone (inr p) waits = subst (All (IsLetGo left first)) (sym p.1) (gone_in_place a.waiting waits)
-
-  let_waits : (a b : Acceptor L) (gone : List (Entry L)) → LetsGo a b gone → IfSome a.waiting (λ w. IsInPlace left first w.token w.place w.link) → IfSome b.waiting (λ w. IsInPlace left first w.token w.place w.link)
-  let_waits a b gone (inl p) waits = subst (λ o. IfSome o (λ w. IsInPlace left first w.token w.place w.link)) (sym p.0) waits
-  let_waits a b gone (inr p) waits = rw p.0 tt
-
-let_founded : {L : Type 0} (a b : Acceptor L) (gone : List (Entry L)) → LetsGo a b gone → All (λ (e : Entry L). is_stopped e.outcome ≡ true → is_some b.core.stopping ≡ true) gone
-let_founded a b gone (inl p) = subst (All (λ (e : Entry _). is_stopped e.outcome ≡ true → is_some b.core.stopping ≡ true)) (sym p.1) (All-nil _)
-let_founded a b gone (inr p) = λ k d inside stopped. p.2
-
-module _ {Li L D : Type 0} (given : Li → ℕ) (left : Li → Option (List L)) (identity : L → Identity) (first ls : List Li) (taken : D → Option (List (Entry L))) (count served : D → ℕ)
-    (a b : Acceptor L) (d e : D) (cs : List Command) (now : ℕ) (entries : List (Entry L)) where
-  carries_obeyed : (o : Obeys taken count served a b d e cs now) → Carries given left identity first ls a entries → Carries given left identity first ls b (entries ++ o.gone)
-  carries_obeyed o c =
-      let s = o.beside in
-      record {
-        gone = c.gone ++ o.gone;
-        let_go = All-append (IsLetGo left first) c.gone o.gone c.let_go (let_in_place left first a b o.gone o.lets_go c.waits);
-        count = weigh (λ c. 1) ∙ c.count ∙ sym s.serial;
-        serials = λ k. weigh (each (has_serial k)) ∙ c.serials k ∙ ap (λ n. once_below n k) (sym s.serial);
-        places = λ t k. weigh (each (has_place t k)) ∙ c.places t k;
-        on_rings = subst (λ v. All (λ p. All (ParcelIsInPlace left first) (sent p)) v.items) (sym s.parcels) c.on_rings;
-        waits = let_waits left first a b o.gone o.lets_go c.waits;
-        remains = c.remains;
-        rises = c.rises;
-        next_places = λ t below. ap (λ v. slice_index_or v.items t 0) s.places ∙ c.next_places t (subst (λ v. t < length v.items) s.places below);
-        back = λ h. omega (arith, c.back h, ap (λ v. came_back identity h v.items) s.notes, sum_by-append (of_entry identity h) c.gone o.gone, sum_by-append (of_entry identity h) entries o.gone);
-        noted = All-append (λ x. Any (λ r. Contains (received r) (Back x)) b.notes.items ⊎ Contains (c.gone ++ o.gone) x) entries o.gone
-            (λ k x inside. still _ (c.noted k x inside)) (λ k x inside. inr (Contains-append_right c.gone o.gone _ (All-contains_itself o.gone k x inside)));
-        out = λ v. ap (λ x. count_put identity x.items v) s.parcels ∙ c.out v ∙ sym (ap₂ (λ n u. count_back identity n.items v + slice_index u v) s.notes (ap (λ (k : Core). k.out) o.core ∙ all_out a.core cs));
-      }
-    where
-      weigh : (h : Card → ℕ) → (put identity h b.parcels.items + in_waiting identity h b.waiting) + let_gone identity h (c.gone ++ o.gone) ≡ (put identity h a.parcels.items + in_waiting identity h a.waiting) + let_gone identity h c.gone
-      weigh h = omega (arith, ap (λ v. put identity h v.items) o.beside.parcels, let_weigh identity h a b o.gone o.lets_go, sum_by-append (of_entry identity h) c.gone o.gone)
-
-      still : (x : Entry L) → Any (λ r. Contains (received r) (Back x)) a.notes.items ⊎ Contains c.gone x → Any (λ r. Contains (received r) (Back x)) b.notes.items ⊎ Contains (c.gone ++ o.gone) x
-      still x (inl any) = inl (subst (λ v. Any (λ r. Contains (received r) (Back x)) v.items) (sym o.beside.notes) any)
-      still x (inr gone) = inr (Contains-append_left c.gone o.gone x gone)
-
 module _ {Li L D : Type 0} (given : Li → ℕ) (left : Li → Option (List L)) (rest : Li → Option (List Mark)) (identity : L → Identity) (ended : Li → Bool) (faults : Li → ℕ)
     (taken : D → Option (List (Entry L))) (count served : D → ℕ) (ls : List Li) (a b : Acceptor L) (d e : D) (cs : List Command) (now : ℕ) where
-  -- nothing was let go before all are ready
-  early_obeyed : (count d < 2 ^ 64) × (served d < 2 ^ 64) → Obeys taken count served a b d e cs now → all_ready b ≡ false → Untouched given left taken count served ls ls d e
-  early_obeyed fits o less =
-      let none : o.gone ≡ [] = o.early (sym o.beside.serial ∙ b.early less) in
-      let adds : Adds taken count served d e [] = subst (λ es. Adds taken count served d e es) none o.adds in
-      let few = fits.0 in
-      let few_served = fits.1 in
-      record {
-        given_same = λ t. refl;
-        left_same = λ t. refl;
-        keeps = record { list = adds.list ∙ same (taken d); number = omega (arith, adds.number, few); number_served = omega (arith, adds.number_served, few_served) };
-      }
-    where
-      same : (told : Option (List (Entry L))) → option_map (λ before. before ++ []) told ≡ told
-      same None = refl
-      same (Some entries) = ap Some (append-nil entries)
-
   obeys_does : (count d < 2 ^ 64) × (served d < 2 ^ 64) → Obeys taken count served a b d e cs now → Does given left rest identity ended faults taken count served ls ls a b d e (events_for cs)
-  obeys_does fits o =
-      let s = o.beside in
-      record {
-        logged = record {
-          allowed = all_allowed a.core cs;
-          of_use = all_of_use a.core cs;
-          core = o.core;
-          got = λ t. omega (arith, count_none (is_got t) (λ c. refl) cs);
-          failed = λ t some. absurd (omega (arith, some, count_none (is_failed t) (λ c. refl) cs));
-          marked = λ t. marked_none (rest_at rest ls t) (marks_of t (events_for cs)) (none_marked t);
-          failures = λ t. row_none (slice_index a.core.failures t) (slice_index b.core.failures t) (marks_of t (events_for cs)) (none_marked t) (ap (λ xs. slice_index xs t) failures);
-          sent_on = λ w. omega (arith, ap (λ v. count_put identity v.items w) s.parcels, count_none (is_sent w) (λ c. refl) cs);
-          back = λ w. omega (arith, ap (λ v. count_back identity v.items w) s.notes, count_none (is_back w) (λ c. refl) cs);
-        };
-        passes = record {
-          more = o.gone;
-          adds = o.adds;
-          founded = let_founded a b o.gone o.lets_go;
-          carries = λ first entries carries. carries_obeyed given left identity first ls taken count served a b d e cs now entries o carries;
-        };
-        awaits = record {
-          stays_ready = λ r. ap (λ v. list_all (λ ready. ready) v.items) s.ready ∙ r;
-          early = early_obeyed fits o;
-          noted = λ n w marked. subst (λ v. IfSome (slice_get v.items w) (λ c. Contains (received c) Ready)) (sym s.notes) (n w (ap (λ v. slice_index_or v.items w false) (sym s.ready) ∙ marked));
-        };
-        tells = tells_same ended faults a.retry_limit ls a.core b.core over failures;
-        rings = record { parcels = ap (λ v. map ring_in v.items) s.parcels; notes = ap (λ v. map ring_out v.items) s.notes };
-        receives = λ w. record { more = []; came = ap (λ v. received_at v.items w) s.notes ∙ sym (append-nil _) };
-        as_many = refl;
-        workers = obeys_workers taken count served a b d e cs now o;
-        listeners = ap (λ xs. length xs) over;
-        limit = s.retry_limit;
-        lacks = λ is. s.lacks_room ∙ is;
-        stops = stops_later a.core b.core (events_for cs) o.core;
-      }
-    where
-      none_marked : (t : ℕ) → marks_of t (events_for cs) ≡ []
-      none_marked t = marks_without t (events_for cs) (count_none (is_got t) (λ c. refl) cs) (count_none (is_failed t) (λ c. refl) cs)
-
-      failures : b.core.failures ≡ a.core.failures
-      failures = ap (λ (k : Core). k.failures) o.core ∙ all_failures a.core cs
-
-      over : b.core.ended ≡ a.core.ended
-      over = ap (λ (k : Core). k.ended) o.core ∙ all_ended a.core cs
+  obeys_does fits o = record {
+    acts = moves_acts given left rest identity ended faults taken count served (Stopped false) (is_some b.core.stopping ≡ true) ls a b d e (events_for cs) false fits (λ stopping _. stopping) (λ _ _ _. inl refl) (record {
+      gone = o.gone;
+      adds = o.adds;
+      lets_go = o.lets_go;
+      early = o.early;
+      allowed = all_allowed a.core cs;
+      core = o.core;
+      out = ap (λ (k : Core). k.out) o.core ∙ all_out a.core cs;
+      ended = ap (λ (k : Core). k.ended) o.core ∙ all_ended a.core cs;
+      failures = ap (λ (k : Core). k.failures) o.core ∙ all_failures a.core cs;
+      got = λ t. count_none (is_got t) (λ c. refl) cs;
+      failed = λ t. count_none (is_failed t) (λ c. refl) cs;
+      sent_on = λ w. count_none (is_sent w) (λ c. refl) cs;
+      back = λ w. count_none (is_back w) (λ c. refl) cs;
+      beside = o.beside;
+    });
+    of_use = all_of_use a.core cs;
+  }
 
   pub obeys_proceeds : (count d < 2 ^ 64) × (served d < 2 ^ 64) → Obeys taken count served a b d e cs now → Proceeds given left rest identity ended faults taken count served ls ls a b d e
   obeys_proceeds fits o = record { more = events_for cs; appended = o.events; does = obeys_does fits o }

@@ -1,5 +1,5 @@
 -- What the acceptor did, one part behind the other.
-use Rattle.std.proofs.Common.{◌≡◌, ◌≢◌, ◌^◌, ◌≤◌, ◌<◌, ◌⊎◌, ◌++◌, [], ℕ, zero, suc, ◌+◌, Bool, true, false, cond, List, Option, IfSome, refl, sym, ◌∙◌, ap, arith, subst, inl, inr, append_assoc}
+use Rattle.std.proofs.Common.{◌≡◌, ◌≢◌, ◌^◌, ◌≤◌, ◌<◌, ◌⊎◌, ◌++◌, [], ℕ, zero, suc, ◌+◌, Bool, true, false, true≢false, cond, List, Option, IfSome, refl, sym, ◌∙◌, ap, arith, subst, inl, inr, append_assoc}
 use Rattle.std.specs.Prelude.{count_by, is_some, slice_get, slice_index, slice_index_or}
 use Rattle.std.proofs.lemmas.List.{append-nil}
 use Rattle.std.proofs.lemmas.List.Elements.{All-append, All-nil}
@@ -14,8 +14,9 @@ use Rattle.server_run.specs.Delivery.{HasEnded, given_at, rest_at}
 use Rattle.server_run.specs.Listener.{Mark, in_a_row}
 use Rattle.server_run.specs.Outcome.{is_stopped}
 use Rattle.server_run.specs.declared.entry.Entry.{Entry}
+use Rattle.server_acceptor.proofs.PutSteps.{puts_same, puts_trans}
 use Rattle.server_acceptor.proofs.Giving.{adds_none}
-use Rattle.server_acceptor.specs.Accepting.{Does, EndsByFault, Logged, Proceeds, TellsEnds, is_back, is_failed, is_got, is_sent, marks_of}
+use Rattle.server_acceptor.specs.Accepting.{Acts, Does, EndsByFault, Logged, Proceeds, TellsEnds, is_back, is_failed, is_got, is_sent, marks_of}
 use Rattle.server_acceptor.specs.Acceptors.{all_ready, core_of, events_of, retry_limit_of}
 use Rattle.server_acceptor.specs.Carrying.{Carries}
 use Rattle.server_acceptor.specs.Logging.{AllOfUse}
@@ -42,11 +43,10 @@ module _ {Li L D : Type 0} (given : Li → ℕ) (left : Li → Option (List L)) 
   }
 
   -- nothing happened
-  pub does_none : (ls : List Li) (a : Acceptor L) (d : D) → (count d < 2 ^ 64) × (served d < 2 ^ 64) → Does given left rest identity ended faults taken count served ls ls a a d d []
-  does_none ls a d fits = record {
+  pub acts_none : (ls : List Li) (a : Acceptor L) (d : D) → (count d < 2 ^ 64) × (served d < 2 ^ 64) → Acts given left rest identity ended faults taken count served ls ls a a d d [] false
+  acts_none ls a d fits = record {
     logged = record {
       allowed = tt;
-      of_use = tt;
       core = refl;
       got = λ t. omega arith;
       failed = λ t some. absurd (omega (arith, some));
@@ -59,19 +59,24 @@ module _ {Li L D : Type 0} (given : Li → ℕ) (left : Li → Option (List L)) 
       more = [];
       adds = adds_none taken count served d fits;
       founded = All-nil _;
-      carries = λ first entries carries. subst (λ es. Carries given left identity first ls a es) (sym (append-nil entries)) carries;
+      carries = λ none_left is first entries carries. subst (λ es. Carries given left identity none_left first ls a es) (sym (append-nil entries)) carries;
     };
     awaits = record { stays_ready = λ r. r; early = λ early. untouched_none ls d; noted = λ n. n };
     tells = record { ends = λ t before now. absurd (let e : false ≡ true = sym before ∙ now in cc); stays = λ t is. (refl, refl, is); rises = λ t. omega arith; marks = λ t has. inl has };
     rings = record { parcels = refl; notes = refl };
+    puts = λ w. puts_same a a w refl;
     receives = λ w. receives_none a w;
     as_many = refl;
     workers = refl;
     listeners = refl;
     limit = refl;
+    max = refl;
     lacks = λ is. is;
     stops = λ is. is;
   }
+
+  pub does_none : (ls : List Li) (a : Acceptor L) (d : D) → (count d < 2 ^ 64) × (served d < 2 ^ 64) → Does given left rest identity ended faults taken count served ls ls a a d d []
+  does_none ls a d fits = record { acts = acts_none ls a d fits; of_use = tt }
 
   pub proceeds_none : (ls : List Li) (a : Acceptor L) (d : D) → (count d < 2 ^ 64) × (served d < 2 ^ 64) → Proceeds given left rest identity ended faults taken count served ls ls a a d d
   proceeds_none ls a d fits = record { more = []; appended = sym (append-nil (events_of a)); does = does_none ls a d fits }
@@ -122,7 +127,6 @@ module _ {Li L D : Type 0} (given : Li → ℕ) (left : Li → Option (List L)) 
         → Logged given rest faults identity l m a b xs → Logged given rest faults identity m n b c ys → Logged given rest faults identity l n a c (xs ++ ys)
     logged_trans xs ys first then_these p q = record {
       allowed = allowed_append (core_of a) xs ys p.allowed (subst (λ s. AllAllowed s ys) p.core q.allowed);
-      of_use = of_use_append (core_of a) xs ys p.of_use (subst (λ s. AllOfUse s ys) p.core q.of_use);
       core = q.core ∙ ap (λ s. after_all s ys) p.core ∙ sym (after_append (core_of a) xs ys);
       got = λ t. omega (arith, p.got t, q.got t, sum_by-append (λ e. cond (is_got t e) 1 0) xs ys);
       failed = λ t some. rose_either (count_by (is_failed t) xs) (count_by (is_failed t) ys) (given_at faults l t) (given_at faults m t) (given_at faults n t)
@@ -135,16 +139,17 @@ module _ {Li L D : Type 0} (given : Li → ℕ) (left : Li → Option (List L)) 
       back = λ w. omega (arith, p.back w, q.back w, sum_by-append (λ e. cond (is_back w e) 1 0) xs ys);
     }
 
-    pub does_trans : (xs ys : List Event) → Does given left rest identity ended faults taken count served l m a b x y xs → Does given left rest identity ended faults taken count served m n b c y z ys
-        → Does given left rest identity ended faults taken count served l n a c x z (xs ++ ys)
-    does_trans xs ys p q = record {
+    -- one part behind the other, of which the last alone may end with no worker left
+    pub acts_trans : (xs ys : List Event) (last : Bool) → Acts given left rest identity ended faults taken count served l m a b x y xs false → Acts given left rest identity ended faults taken count served m n b c y z ys last
+        → Acts given left rest identity ended faults taken count served l n a c x z (xs ++ ys) last
+    acts_trans xs ys last p q = record {
       logged = logged_trans xs ys p.tells.rises q.tells.rises p.logged q.logged;
       passes = record {
         more = p.passes.more ++ q.passes.more;
         adds = adds_trans taken count served x y z p.passes.more q.passes.more p.passes.adds q.passes.adds;
         founded = All-append (λ (e : Entry L). is_stopped e.outcome ≡ true → is_some (core_of c).stopping ≡ true) p.passes.more q.passes.more (λ i e inside stopped. q.stops (p.passes.founded i e inside stopped)) q.passes.founded;
-        carries = λ first entries carries. subst (λ es. Carries given left identity first n c es) (append_assoc entries p.passes.more q.passes.more)
-            (q.passes.carries first (entries ++ p.passes.more) (p.passes.carries first entries carries));
+        carries = λ none_left is first entries carries. subst (λ es. Carries given left identity none_left first n c es) (append_assoc entries p.passes.more q.passes.more)
+            (q.passes.carries none_left is first (entries ++ p.passes.more) (p.passes.carries none_left (λ never. absurd (true≢false (sym never))) first entries carries));
       };
       awaits = record {
         stays_ready = λ r. q.awaits.stays_ready (p.awaits.stays_ready r);
@@ -153,13 +158,22 @@ module _ {Li L D : Type 0} (given : Li → ℕ) (left : Li → Option (List L)) 
       };
       tells = tells_trans (retry_limit_of a) p.tells (subst (λ k. TellsEnds ended faults k m n (core_of b) (core_of c)) p.limit q.tells);
       rings = record { parcels = q.rings.parcels ∙ p.rings.parcels; notes = q.rings.notes ∙ p.rings.notes };
+      puts = λ w. puts_trans a b c w (p.puts w) (q.puts w);
       receives = λ w. receives_trans a b c w (p.receives w) (q.receives w);
       as_many = q.as_many ∙ p.as_many;
       workers = q.workers ∙ p.workers;
       listeners = q.listeners ∙ p.listeners;
       limit = q.limit ∙ p.limit;
+      max = q.max ∙ p.max;
       lacks = λ is. q.lacks (p.lacks is);
       stops = λ is. q.stops (p.stops is);
+    }
+
+    pub does_trans : (xs ys : List Event) → Does given left rest identity ended faults taken count served l m a b x y xs → Does given left rest identity ended faults taken count served m n b c y z ys
+        → Does given left rest identity ended faults taken count served l n a c x z (xs ++ ys)
+    does_trans xs ys p q = record {
+      acts = acts_trans xs ys false p.acts q.acts;
+      of_use = of_use_append (core_of a) xs ys p.of_use (subst (λ s. AllOfUse s ys) p.acts.logged.core q.of_use);
     }
 
     pub proceeds_trans : Proceeds given left rest identity ended faults taken count served l m a b x y → Proceeds given left rest identity ended faults taken count served m n b c y z
@@ -172,4 +186,4 @@ module _ {Li L D : Type 0} (given : Li → ℕ) (left : Li → Option (List L)) 
 
     -- a worker that ends by a fault after that
     pub fault_after : (w : ℕ) → Proceeds given left rest identity ended faults taken count served l m a b x y → EndsByFault b c w → EndsByFault a c w
-    fault_after w p e = ends_later a b c w (p.does.receives w) e
+    fault_after w p e = ends_later a b c w (p.does.acts.receives w) e

@@ -3,8 +3,6 @@ use Rattle.std.proofs.Common.{◌≡◌, ◌≢◌, ℕ, zero, suc, ◌+◌, ◌
 use Rattle.std.specs.Prelude.{◌||◌, Bool, Option, is_some, count_by, nat_eq, slice_get, slice_set, slice_index, sum}
 use Rattle.std.specs.Option.{option_map_or}
 use Rattle.std.specs.FinSet as set
-use Rattle.std.specs.FinSet.{contains-insert}
-use Rattle.std.specs.Cmp.{nat_cmp_total, unsigned_tied}
 use Rattle.std.proofs.lemmas.Bool.Decides.{nat_tests}
 use Rattle.std.proofs.lemmas.Bool.{cases_eq}
 use Rattle.std.proofs.Math.Seq.{map-set_same}
@@ -16,7 +14,6 @@ use Rattle.std.proofs.lemmas.Option.{slice_get-get_or}
 use Rattle.rtrb.specs.Ring.{known_items, received, SameConsumer}
 use Rattle.rtrb.specs.declared.consumer.Consumer.{Consumer}
 use Rattle.service_core.specs.Link.{Identity}
-use Rattle.server_core.specs.Numbers.{Numbers}
 use Rattle.server_core.specs.Core.{Core, IsKept, held, in_order, is_worker, step}
 use Rattle.server_core.specs.declared.event.Event.{Event}
 use Rattle.server_core.specs.declared.event.Event.TheVariants.{Notice, Back as BackOf}
@@ -32,26 +29,23 @@ use Rattle.server_jobs.specs.declared.note.Note.{Note}
 use Rattle.server_jobs.specs.declared.note.Note.TheVariants.{Back}
 use Rattle.server_acceptor.specs.Logging.{Logs}
 use Rattle.server_acceptor.proofs.LogSteps.{logs_one, logs_trans}
-use Rattle.server_acceptor.proofs.PlaceSteps.{IsRuled}
+use Rattle.server_acceptor.proofs.PlaceSteps.{IsRuled, contains_inserted}
 
 -- ---- the rule of the limit
-ruled_back : (s : Core) (limit w v : ℕ) → IsRuled s limit → w < length s.out → slice_index s.out w ≢ limit → 0 < slice_index s.out w → in_order s.order v ≡ true
+ruled_back : (s : Core) (limit w v : ℕ) → IsRuled s limit → w < length s.out → (in_order s.order w ≡ true → slice_index s.out w ≢ limit) → 0 < slice_index s.out w → in_order s.order v ≡ true
     → set.contains s.free v ≡ nat_lt (slice_index (slice_set s.out w (slice_index s.out w - 1)) v) limit
 ruled_back s limit w v ruled inside other some i =
     elim (cases_eq v w) [
-      | inl same ↦ rw same (let r = ruled w (subst (λ x. in_order s.order x ≡ true) same i) in
-          r ∙ ap (λ n. nat_lt n limit) refl ∙ lower ∙ ap (λ n. nat_lt n limit) (sym (get_or-set_same s.out w (slice_index s.out w - 1) 0 inside)))
+      | inl same ↦ rw same (let there = subst (λ x. in_order s.order x ≡ true) same i in
+          ruled w there ∙ lower (other there) ∙ ap (λ n. nat_lt n limit) (sym (get_or-set_same s.out w (slice_index s.out w - 1) 0 inside)))
       | inr differ ↦ ruled v i ∙ ap (λ n. nat_lt n limit) (sym (get_or-set_other s.out w v (slice_index s.out w - 1) 0 differ))
     ]
   where
-    lower : nat_lt (slice_index s.out w) limit ≡ nat_lt (slice_index s.out w - 1) limit
-    lower = grind (arith, nat_tests)
+    lower : slice_index s.out w ≢ limit → nat_lt (slice_index s.out w) limit ≡ nat_lt (slice_index s.out w - 1) limit
+    lower unlike = grind (arith, nat_tests)
 
-pub ruled_lower : (s t : Core) (limit w : ℕ) → IsRuled s limit → w < length s.out → slice_index s.out w ≢ limit → 0 < slice_index s.out w → t ≡ step s (BackOf w) → IsRuled t limit
+pub ruled_lower : (s t : Core) (limit w : ℕ) → IsRuled s limit → w < length s.out → (in_order s.order w ≡ true → slice_index s.out w ≢ limit) → 0 < slice_index s.out w → t ≡ step s (BackOf w) → IsRuled t limit
 ruled_lower s t limit w ruled inside other some is = subst (λ u. IsRuled u limit) (sym is) (λ v i. ruled_back s limit w v ruled inside other some i)
-
-contains_inserted : (free : Numbers) (w v : ℕ) → set.contains (set.insert free w) v ≡ (nat_eq v w || set.contains free v)
-contains_inserted free w v = contains-insert nat_cmp_total free w v ∙ ap (λ b. b || set.contains free v) (unsigned_tied v w)
 
 ruled_notice : (s : Core) (limit w : ℕ) → IsRuled s limit → w < length s.out → slice_index s.out w ≡ limit → 0 < slice_index s.out w → in_order s.order w ≡ true
     → IsRuled (step (step s (BackOf w)) (Notice w)) limit
@@ -188,14 +182,8 @@ pub spare_left : (s t : Core) (w before after : ℕ) → w < length s.out → 0 
     → sum s.out + held s.waiting ≤ before → after + 1 ≡ before → sum t.out + held t.waiting ≤ after
 spare_left s t w before after below some out waiting h is = omega (arith, sum_lower s.out w below some, ap sum out, ap held waiting)
 
-abbrev pub AreInTurn : Core → Type 0
-AreInTurn s = (v : ℕ) → v < length s.out → in_order s.order v ≡ true
-
-pub in_turn_kept : (s t : Core) → t.order ≡ s.order → length t.out ≡ length s.out → AreInTurn s → AreInTurn t
-in_turn_kept s t order out are v below = ap (λ xs. in_order xs v) order ∙ are v (omega arith)
-
 -- Where the next note of a worker may be taken and is a connection, one is out at it, and a stop came where it was stopped.
-may_back : {L A P : Type 0} (ps : List (Consumer (Note L) A P)) (w out : ℕ) (stopping : Option Bool) (p : Consumer (Note L) A P) (note : Note L) (rest : List (Note L)) (e : Entry L) → w < length ps → p ≡ get_or ps w p
+pub may_back : {L A P : Type 0} (ps : List (Consumer (Note L) A P)) (w out : ℕ) (stopping : Option Bool) (p : Consumer (Note L) A P) (note : Note L) (rest : List (Note L)) (e : Entry L) → w < length ps → p ≡ get_or ps w p
     → known_items p ≡ note ∷ rest → note ≡ Back e → IfSome (slice_get ps w) (λ c. MayTake out stopping (known_items c)) → (0 < out) × (is_stopped e.outcome ≡ true → is_some stopping ≡ true)
 may_back ps w out stopping p note rest e inside is known note_is may =
     let there : slice_get ps w ≡ Some p = slice_get-get_or ps w p inside ∙ ap Some (sym is) in
@@ -205,12 +193,6 @@ may_back ps w out stopping p note rest e inside is known note_is may =
 pub out_at_back : {L A P : Type 0} (ps : List (Consumer (Note L) A P)) (w out : ℕ) (stopping : Option Bool) (p : Consumer (Note L) A P) (note : Note L) (rest : List (Note L)) (e : Entry L) → w < length ps → p ≡ get_or ps w p
     → known_items p ≡ note ∷ rest → note ≡ Back e → IfSome (slice_get ps w) (λ c. MayTake out stopping (known_items c)) → 0 < out
 out_at_back ps w out stopping p note rest e inside is known note_is may = (may_back ps w out stopping p note rest e inside is known note_is may).0
-
-pub founded_at_back : {L A P : Type 0} (ps : List (Consumer (Note L) A P)) (w out : ℕ) (stopping now : Option Bool) (p : Consumer (Note L) A P) (note : Note L) (rest : List (Note L)) (e : Entry L) → w < length ps → p ≡ get_or ps w p
-    → known_items p ≡ note ∷ rest → note ≡ Back e → IfSome (slice_get ps w) (λ c. MayTake out stopping (known_items c)) → now ≡ stopping
-    → All (λ (x : Entry L). is_stopped x.outcome ≡ true → is_some now ≡ true) (e ∷ [])
-founded_at_back ps w out stopping now p note rest e inside is known note_is may same = All-cons (λ (x : Entry _). is_stopped x.outcome ≡ true → is_some now ≡ true) e []
-    (λ stopped. ap (λ o. is_some o) same ∙ (may_back ps w out stopping p note rest e inside is known note_is may).1 stopped) (All-nil _)
 
 -- ---- the same, where the list of the ends is known by an equation
 module _ {L A P : Type 0} (ns ps : List (Consumer (Note L) A P)) (w : ℕ) (p q : Consumer (Note L) A P) (note : Note L) (e : Entry L) (now : ns ≡ set ps w q)

@@ -13,9 +13,10 @@ use Rattle.server_run.specs.Listener.{Mark}
 use Rattle.server_run.specs.Serving.{Untouched}
 use Rattle.server_run.specs.Done.{Adds}
 use Rattle.server_run.specs.declared.entry.Entry.{Entry}
-use Rattle.server_acceptor.specs.Accepting.{Does, Proceeds, TellsEnds, is_failed, is_got, is_sent, marks_of}
+use Rattle.server_acceptor.proofs.PutSteps.{puts_same}
+use Rattle.server_acceptor.specs.Accepting.{Acts, Does, Proceeds, TellsEnds, is_failed, is_got, is_sent, marks_of}
 use Rattle.server_acceptor.specs.Acceptors.{all_ready}
-use Rattle.server_acceptor.specs.Handing.{AllReturn, Hands}
+use Rattle.server_acceptor.specs.Handing.{AllReturn, Hands, HandsBy}
 use Rattle.server_acceptor.specs.Rings.{count_put, ring_in}
 use Rattle.server_acceptor.specs.declared.acceptor.Acceptor.{Acceptor}
 use Rattle.server_acceptor.proofs.CarrySteps.{carries_handed}
@@ -57,7 +58,7 @@ tells_same ended faults retry_limit ls s t over failures = record {
 module _ {Li L D : Type 0} (given : Li → ℕ) (left : Li → Option (List L)) (rest : Li → Option (List Mark)) (identity : L → Identity) (ended : Li → Bool) (faults : Li → ℕ)
     (taken : D → Option (List (Entry L))) (count served : D → ℕ) (ls : List Li) (a b : Acceptor L) (old new : D) where
   -- nothing was handed on before all are ready
-  early_hands : (count old < 2 ^ 64) × (served old < 2 ^ 64) → Hands identity taken count served a b old new → all_ready b ≡ false → Untouched given left taken count served ls ls old new
+  early_hands : {xs ys : List Event} → (count old < 2 ^ 64) × (served old < 2 ^ 64) → HandsBy identity taken count served a b old new xs ys → all_ready b ≡ false → Untouched given left taken count served ls ls old new
   early_hands fits h less =
       let none : h.entries ≡ [] = h.early (sym h.serial ∙ b.early less) in
       let adds : Adds taken count served old new [] = subst (λ es. Adds taken count served old new es) none h.adds in
@@ -73,11 +74,10 @@ module _ {Li L D : Type 0} (given : Li → ℕ) (left : Li → Option (List L)) 
       same None = refl
       same (Some entries) = ap Some (append-nil entries)
 
-  pub hands_does : (count old < 2 ^ 64) × (served old < 2 ^ 64) → (h : Hands identity taken count served a b old new) → Does given left rest identity ended faults taken count served ls ls a b old new h.logs.more
-  hands_does fits h = record {
+  pub hands_acts : {xs ys : List Event} → (count old < 2 ^ 64) × (served old < 2 ^ 64) → (h : HandsBy identity taken count served a b old new xs ys) → Acts given left rest identity ended faults taken count served ls ls a b old new h.logs.more false
+  hands_acts fits h = record {
     logged = record {
       allowed = h.logs.allowed;
-      of_use = h.logs.of_use;
       core = h.logs.core;
       got = λ t. omega (arith, none_got h.logs.more t h.returns);
       failed = λ t some. absurd (omega (arith, some, none_failed h.logs.more t h.returns));
@@ -90,19 +90,24 @@ module _ {Li L D : Type 0} (given : Li → ℕ) (left : Li → Option (List L)) 
       more = h.entries;
       adds = h.adds;
       founded = h.founded;
-      carries = λ first entries carries. carries_handed given left identity first ls taken count served a b old new entries h carries;
+      carries = λ none_left is first entries carries. carries_handed given left identity none_left first ls taken count served a b old new entries h carries;
     };
     awaits = record { stays_ready = h.ready; early = early_hands fits h; noted = h.marks };
     tells = tells_same ended faults a.retry_limit ls a.core b.core h.ended h.failures;
     rings = record { parcels = ap (λ v. map ring_in v.items) h.parcels; notes = h.rings };
+    puts = λ w. puts_same a b w h.parcels;
     receives = h.receives;
     as_many = refl;
     workers = same_workers identity taken count served a b old new h;
     listeners = ap (λ xs. length xs) h.ended;
     limit = h.retry_limit;
+    max = h.limit;
     lacks = λ is. h.lacks_room ∙ is;
     stops = stops_later a.core b.core h.logs.more h.logs.core;
   }
+
+  hands_does : (count old < 2 ^ 64) × (served old < 2 ^ 64) → (h : Hands identity taken count served a b old new) → Does given left rest identity ended faults taken count served ls ls a b old new h.logs.more
+  hands_does fits h = record { acts = hands_acts fits h; of_use = h.logs.of_use }
 
   pub hands_proceeds : (count old < 2 ^ 64) × (served old < 2 ^ 64) → Hands identity taken count served a b old new → Proceeds given left rest identity ended faults taken count served ls ls a b old new
   hands_proceeds fits h = record { more = h.logs.more; appended = h.logs.appended; does = hands_does fits h }

@@ -1,11 +1,14 @@
 pub mod AskDoes
 pub mod AskSteps
+pub mod BesideSteps
 pub mod CarrySteps
 pub mod CommandSteps
+pub mod CoreSteps
 pub mod DoesSteps
 pub mod Failing
 pub mod Giving
 pub mod HandSteps
+pub mod Handed
 pub mod HandsDoes
 pub mod LeaveSteps
 pub mod LogSteps
@@ -14,6 +17,7 @@ pub mod NewSteps
 pub mod NoteSteps
 pub mod OnceSteps
 pub mod OutSteps
+pub mod PartSteps
 pub mod PlaceSteps
 pub mod PlacedDoes
 pub mod RoomSteps
@@ -26,3 +30,4 @@ pub mod Trying
 pub mod TurnSteps
 pub mod TurnTakes
 pub mod WordSteps
+pub mod PutSteps

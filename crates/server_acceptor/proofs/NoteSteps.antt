@@ -29,7 +29,7 @@ use Rattle.server_acceptor.specs.Carrying.{came_back}
 use Rattle.server_acceptor.specs.Rings.{ring_out}
 use Rattle.server_acceptor.specs.Accepting.{EndsByFault, HasTold, IsShort, Receives, is_back, received_at, refused, refused_by}
 use Rattle.server_acceptor.specs.Acceptors.{events_of}
-use Rattle.server_acceptor.specs.Handing.{known_at, AllReturn, Hands}
+use Rattle.server_acceptor.specs.Handing.{known_at, AllReturn, Hands, HandsBy}
 use Rattle.server_acceptor.specs.Notes.{count_back}
 use Rattle.server_acceptor.specs.declared.acceptor.Acceptor.{Acceptor}
 use Rattle.server_jobs.specs.declared.note.Note.{Note}
@@ -206,7 +206,7 @@ length_mapped : {X Y : Type 0} (h : X → Y) (xs : List X) → length (map h xs)
 length_mapped h [] = refl
 length_mapped h (x ∷ xs) = ap suc (length_mapped h xs)
 
-pub same_workers : {L D : Type 0} (identity : L → Identity) (taken : D → Option (List (Entry L))) (count served : D → ℕ) (a b : Acceptor L) (d e : D) → Hands identity taken count served a b d e → length b.core.out ≡ length a.core.out
+pub same_workers : {L D : Type 0} {xs ys : List Event} (identity : L → Identity) (taken : D → Option (List (Entry L))) (count served : D → ℕ) (a b : Acceptor L) (d e : D) → HandsBy identity taken count served a b d e xs ys → length b.core.out ≡ length a.core.out
 same_workers identity taken count served a b d e hands =
     omega (arith, a.workers.1, b.workers.1, ap (λ xs. length xs) hands.rings, length_mapped (λ c. ring_out c) a.notes.items, length_mapped (λ c. ring_out c) b.notes.items)
 

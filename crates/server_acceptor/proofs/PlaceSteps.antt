@@ -79,10 +79,10 @@ may_offer s w waits below e =
     let turn : is_at (first_free s) w ≡ true = ap (λ o. is_at o w) e ∙ at_itself w in
     rw (number, waits, turn) refl
 
-contains_removed : (free : Numbers) (w v : ℕ) → set.contains (set.remove free w) v ≡ (not (nat_eq v w) && set.contains free v)
+pub contains_removed : (free : Numbers) (w v : ℕ) → set.contains (set.remove free w) v ≡ (not (nat_eq v w) && set.contains free v)
 contains_removed free w v = contains-remove nat_cmp_total free w v ∙ ap (λ b. not b && set.contains free v) (unsigned_tied v w)
 
-contains_inserted : (free : Numbers) (w v : ℕ) → set.contains (set.insert free w) v ≡ (nat_eq v w || set.contains free v)
+pub contains_inserted : (free : Numbers) (w v : ℕ) → set.contains (set.insert free w) v ≡ (nat_eq v w || set.contains free v)
 contains_inserted free w v = contains-insert nat_cmp_total free w v ∙ ap (λ b. b || set.contains free v) (unsigned_tied v w)
 
 same_number : (x w : ℕ) → nat_eq x w ≡ true → x ≡ w

@@ -19,6 +19,9 @@ use Rattle.server_core.proofs.Orders.{or_true}
 use Rattle.server_run.specs.Delivery.{rest_at}
 use Rattle.server_run.specs.Listener.{Mark}
 use Rattle.server_run.specs.declared.entry.Entry.{Entry}
+use Rattle.server_acceptor.proofs.PutSteps.{puts_at, puts_kept}
+use Rattle.server_acceptor.specs.Accepting.{Puts}
+use Rattle.server_acceptor.specs.Sending.{sent_to}
 use Rattle.server_acceptor.proofs.Giving.{adds_none}
 use Rattle.server_jobs.specs.declared.note.Note.TheVariants.{Ready}
 use Rattle.server_jobs.specs.declared.waiting.Waiting.{Waiting as IsWaiting}
@@ -201,6 +204,11 @@ module _ {L : Type 0} (identity : L → Identity) (a b : Acceptor L) where
         rings = ap (λ ps. map ring_in ps.items) p.parcels;
       }
 
+puts_placed : {L : Type 0} (a b : Acceptor L) (w : ℕ) (placed : Placed) → IsPlaced a b placed → Puts a b w
+puts_placed a b w (Sent v) p = puts_at a b w v (parcel_of p.placed) p.rings
+puts_placed a b w Waiting p = puts_kept a b w p.rings
+puts_placed a b w Nothing p = record { more = []; went = ap (λ v. sent_to v.items w) p.parcels ∙ sym (append-nil _) }
+
 module _ {Li L D : Type 0} (given : Li → ℕ) (left : Li → Option (List L)) (rest : Li → Option (List Mark)) (identity : L → Identity) (ended : Li → Bool) (faults : Li → ℕ)
     (taken : D → Option (List (Entry L))) (count served : D → ℕ) (ls : List Li) (a b : Acceptor L) (d : D) (placed : Placed) where
   pub placed_does : (count d < 2 ^ 64) × (served d < 2 ^ 64) → (logs : Logs a.core b.core a.events.items b.events.items) → Stays a b → IsPlaced a b placed
@@ -208,37 +216,41 @@ module _ {Li L D : Type 0} (given : Li → ℕ) (left : Li → Option (List L)) 
   placed_does fits logs s p =
       let k = placing identity a b logs placed p in
       record {
-        logged = record {
-          allowed = logs.allowed;
-          of_use = logs.of_use;
-          core = logs.core;
-          got = λ t. omega (arith, k.got t);
-          failed = λ t some. absurd (omega (arith, some, k.failed t));
-          marked = λ t. marked_none (rest_at rest ls t) (marks_of t logs.more) (marks_without t logs.more (k.got t) (k.failed t));
-          failures = λ t. row_none (slice_index a.core.failures t) (slice_index b.core.failures t) (marks_of t logs.more) (marks_without t logs.more (k.got t) (k.failed t)) (ap (λ xs. slice_index xs t) k.failures);
-          sent_on = k.sent_on;
-          back = λ w. omega (arith, k.back w, ap (λ v. count_back identity v.items w) s.notes);
+        acts = record {
+          logged = record {
+            allowed = logs.allowed;
+            core = logs.core;
+            got = λ t. omega (arith, k.got t);
+            failed = λ t some. absurd (omega (arith, some, k.failed t));
+            marked = λ t. marked_none (rest_at rest ls t) (marks_of t logs.more) (marks_without t logs.more (k.got t) (k.failed t));
+            failures = λ t. row_none (slice_index a.core.failures t) (slice_index b.core.failures t) (marks_of t logs.more) (marks_without t logs.more (k.got t) (k.failed t)) (ap (λ xs. slice_index xs t) k.failures);
+            sent_on = k.sent_on;
+            back = λ w. omega (arith, k.back w, ap (λ v. count_back identity v.items w) s.notes);
+          };
+          passes = record {
+            more = [];
+            adds = adds_none taken count served d fits;
+            founded = All-nil _;
+            carries = λ none_left is first entries carries. subst (λ es. Carries given left identity none_left first ls b es) (sym (append-nil entries)) (carries_placed given left identity none_left first ls a b entries placed s p carries);
+          };
+          awaits = record {
+            stays_ready = λ all. ap (λ v. list_all (λ r. r) v.items) s.ready ∙ all;
+            early = λ less. untouched_none given left rest identity ended faults taken count served ls d;
+            noted = λ told w on. subst (λ v. IfSome (slice_get v.items w) (λ c. Contains (received c) Ready)) (sym s.notes) (told w (ap (λ v. slice_index_or v.items w false) (sym s.ready) ∙ on));
+          };
+          tells = tells_same ended faults a.retry_limit ls a.core b.core k.over k.failures;
+          rings = record { parcels = k.rings; notes = ap (λ v. map ring_out v.items) s.notes };
+          puts = λ w. puts_placed a b w placed p;
+          receives = λ w. record { more = []; came = ap (λ v. received_at v.items w) s.notes ∙ sym (append-nil (received_at a.notes.items w)) };
+          as_many = refl;
+          workers = k.workers;
+          listeners = ap (λ xs. length xs) k.over;
+          limit = s.retry_limit;
+          max = s.limit;
+          lacks = λ is. s.lacks_room ∙ is;
+          stops = stops_later a.core b.core logs.more logs.core;
         };
-        passes = record {
-          more = [];
-          adds = adds_none taken count served d fits;
-          founded = All-nil _;
-          carries = λ first entries carries. subst (λ es. Carries given left identity first ls b es) (sym (append-nil entries)) (carries_placed given left identity first ls a b entries placed s p carries);
-        };
-        awaits = record {
-          stays_ready = λ all. ap (λ v. list_all (λ r. r) v.items) s.ready ∙ all;
-          early = λ less. untouched_none given left rest identity ended faults taken count served ls d;
-          noted = λ told w on. subst (λ v. IfSome (slice_get v.items w) (λ c. Contains (received c) Ready)) (sym s.notes) (told w (ap (λ v. slice_index_or v.items w false) (sym s.ready) ∙ on));
-        };
-        tells = tells_same ended faults a.retry_limit ls a.core b.core k.over k.failures;
-        rings = record { parcels = k.rings; notes = ap (λ v. map ring_out v.items) s.notes };
-        receives = λ w. record { more = []; came = ap (λ v. received_at v.items w) s.notes ∙ sym (append-nil (received_at a.notes.items w)) };
-        as_many = refl;
-        workers = k.workers;
-        listeners = ap (λ xs. length xs) k.over;
-        limit = s.retry_limit;
-        lacks = λ is. s.lacks_room ∙ is;
-        stops = stops_later a.core b.core logs.more logs.core;
+        of_use = logs.of_use;
       }
 
   pub placed_proceeds : (count d < 2 ^ 64) × (served d < 2 ^ 64) → Logs a.core b.core a.events.items b.events.items → Stays a b → IsPlaced a b placed

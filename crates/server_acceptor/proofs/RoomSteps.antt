@@ -17,6 +17,7 @@ use Rattle.server_run.specs.declared.entry.Entry.{Entry}
 use Rattle.server_jobs.specs.Cards.{Card}
 use Rattle.server_jobs.specs.declared.note.Note.TheVariants.{Back, Ready}
 use Rattle.server_jobs.specs.declared.waiting.Waiting.{Waiting}
+use Rattle.server_acceptor.proofs.PutSteps.{puts_same}
 use Rattle.server_acceptor.specs.Accepting.{AsksFrom, IsAccepting, MayAsk, Proceeds, is_failed, marks_of, received_at}
 use Rattle.server_acceptor.specs.Acceptors.{events_of}
 use Rattle.server_acceptor.specs.Asking.{MakesRoom}
@@ -27,8 +28,8 @@ use Rattle.server_acceptor.specs.declared.acceptor.Acceptor.{Acceptor}
 use Rattle.server_acceptor.proofs.LeaveSteps.{leaves_room}
 use Rattle.server_acceptor.proofs.MarkSteps.{marked_none}
 
-module _ {Li L : Type 0} (given : Li → ℕ) (left : Li → Option (List L)) (identity : L → Identity) (first now : List Li) where
-  carries_room : (a b : Acceptor L) (entries : List (Entry L)) → MakesRoom a b → Carries given left identity first now a entries → Carries given left identity first now b entries
+module _ {Li L : Type 0} (given : Li → ℕ) (left : Li → Option (List L)) (identity : L → Identity) (none_left : Bool) (first now : List Li) where
+  carries_room : (a b : Acceptor L) (entries : List (Entry L)) → MakesRoom a b → Carries given left identity none_left first now a entries → Carries given left identity none_left first now b entries
   carries_room a b entries s c =
       let weigh : (h : Card → ℕ) → (put identity h b.parcels.items + in_waiting identity h b.waiting) + let_gone identity h c.gone ≡ (put identity h a.parcels.items + in_waiting identity h a.waiting) + let_gone identity h c.gone =
       λ h. ap₂ (λ v o. (put identity h v.items + in_waiting identity h o) + let_gone identity h c.gone) s.parcels s.waiting in
@@ -68,42 +69,46 @@ module _ {Li L D : Type 0} (given : Li → ℕ) (left : Li → Option (List L)) 
     more = [];
     appended = ap (λ v. v.items) s.events ∙ sym (append-nil (events_of a));
     does = record {
-      logged = record {
-        allowed = tt;
-        of_use = tt;
-        core = s.core;
-        got = λ t. omega arith;
-        failed = λ t some. absurd (omega (arith, some));
-        marked = λ t. marked_none (rest_at rest ls t) (marks_of t []) refl;
-        failures = λ t. ap (λ k. slice_index k.failures t) s.core;
-        sent_on = λ w. omega (arith, ap (λ v. count_put identity v.items w) s.parcels);
-        back = λ w. omega (arith, ap (λ v. count_back identity v.items w) s.notes);
+      acts = record {
+        logged = record {
+          allowed = tt;
+          core = s.core;
+          got = λ t. omega arith;
+          failed = λ t some. absurd (omega (arith, some));
+          marked = λ t. marked_none (rest_at rest ls t) (marks_of t []) refl;
+          failures = λ t. ap (λ k. slice_index k.failures t) s.core;
+          sent_on = λ w. omega (arith, ap (λ v. count_put identity v.items w) s.parcels);
+          back = λ w. omega (arith, ap (λ v. count_back identity v.items w) s.notes);
+        };
+        passes = record {
+          more = [];
+          adds = keeps_adds taken count served d e fits k;
+          founded = All-nil _;
+          carries = λ none_left is first entries carries. subst (λ es. Carries given left identity none_left first ls b es) (sym (append-nil entries)) (carries_room given left identity none_left first ls a b entries s carries);
+        };
+        awaits = record {
+          stays_ready = λ r. ap (λ v. list_all (λ ready. ready) v.items) s.ready ∙ r;
+          early = λ early. record { given_same = λ t. refl; left_same = λ t. refl; keeps = k };
+          noted = λ n w marked. subst (λ v. IfSome (slice_get v.items w) (λ c. Contains (received c) Ready)) (sym s.notes) (n w (ap (λ v. slice_index_or v.items w false) (sym s.ready) ∙ marked));
+        };
+        tells = record {
+          ends = λ t before now. absurd (let e : false ≡ true = sym before ∙ ap (λ k. slice_index_or k.ended t false) (sym s.core) ∙ now in cc);
+          stays = λ t is. (refl, ap (λ k. slice_index k.failures t) s.core, ap (λ k. slice_index_or k.ended t false) s.core ∙ is);
+          marks = λ t has. inl has;
+          rises = λ t. omega arith;
+        };
+        rings = record { parcels = ap (λ v. map ring_in v.items) s.parcels; notes = ap (λ v. map ring_out v.items) s.notes };
+        puts = λ w. puts_same a b w s.parcels;
+        receives = λ w. record { more = []; came = ap (λ v. received_at v.items w) s.notes ∙ sym (append-nil _) };
+        as_many = refl;
+        workers = ap (λ k. length k.out) s.core;
+        listeners = ap (λ k. length k.ended) s.core;
+        limit = s.retry_limit;
+        max = s.limit;
+        lacks = s.lacks;
+        stops = λ is. ap (λ k. is_some k.stopping) s.core ∙ is;
       };
-      passes = record {
-        more = [];
-        adds = keeps_adds taken count served d e fits k;
-        founded = All-nil _;
-        carries = λ first entries carries. subst (λ es. Carries given left identity first ls b es) (sym (append-nil entries)) (carries_room given left identity first ls a b entries s carries);
-      };
-      awaits = record {
-        stays_ready = λ r. ap (λ v. list_all (λ ready. ready) v.items) s.ready ∙ r;
-        early = λ early. record { given_same = λ t. refl; left_same = λ t. refl; keeps = k };
-        noted = λ n w marked. subst (λ v. IfSome (slice_get v.items w) (λ c. Contains (received c) Ready)) (sym s.notes) (n w (ap (λ v. slice_index_or v.items w false) (sym s.ready) ∙ marked));
-      };
-      tells = record {
-        ends = λ t before now. absurd (let e : false ≡ true = sym before ∙ ap (λ k. slice_index_or k.ended t false) (sym s.core) ∙ now in cc);
-        stays = λ t is. (refl, ap (λ k. slice_index k.failures t) s.core, ap (λ k. slice_index_or k.ended t false) s.core ∙ is);
-        marks = λ t has. inl has;
-        rises = λ t. omega arith;
-      };
-      rings = record { parcels = ap (λ v. map ring_in v.items) s.parcels; notes = ap (λ v. map ring_out v.items) s.notes };
-      receives = λ w. record { more = []; came = ap (λ v. received_at v.items w) s.notes ∙ sym (append-nil _) };
-      as_many = refl;
-      workers = ap (λ k. length k.out) s.core;
-      listeners = ap (λ k. length k.ended) s.core;
-      limit = s.retry_limit;
-      lacks = s.lacks;
-      stops = λ is. ap (λ k. is_some k.stopping) s.core ∙ is;
+      of_use = tt;
     };
   }
 

@@ -24,14 +24,14 @@ sent_as (p ∷ ps) zero = refl
 sent_as (p ∷ ps) (suc w) = sent_as ps w
 
 module _ {L A P : Type 0} (ps qs : List (Producer (Parcel L) A P)) where
-  sent_kept : KeepsSent ps qs → (v : ℕ) → sent_to qs v ≡ sent_to ps v
+  pub sent_kept : KeepsSent ps qs → (v : ℕ) → sent_to qs v ≡ sent_to ps v
   sent_kept k v = sent_as qs v ∙ ap (λ xs. slice_index_or xs v []) k.sent_on ∙ sym (sent_as ps v)
 
-  sent_elsewhere : (w v : ℕ) (item : Parcel L) → PutsAt ps qs w item → v ≢ w → sent_to qs v ≡ sent_to ps v
+  pub sent_elsewhere : (w v : ℕ) (item : Parcel L) → PutsAt ps qs w item → v ≢ w → sent_to qs v ≡ sent_to ps v
   sent_elsewhere w v item p other = sent_as qs v ∙ ap (λ xs. slice_index_or xs v []) p.sent_on
       ∙ get_or-set_other (map (λ p. sent p) ps) w v (slice_index_or (map (λ p. sent p) ps) w [] ++ item ∷ []) [] other ∙ sym (sent_as ps v)
 
-  sent_there : (w : ℕ) (item : Parcel L) → PutsAt ps qs w item → sent_to qs w ≡ sent_to ps w ++ item ∷ []
+  pub sent_there : (w : ℕ) (item : Parcel L) → PutsAt ps qs w item → sent_to qs w ≡ sent_to ps w ++ item ∷ []
   sent_there w item p = sent_as qs w ∙ ap (λ xs. slice_index_or xs w []) p.sent_on
       ∙ get_or-set_same (map (λ p. sent p) ps) w (slice_index_or (map (λ p. sent p) ps) w [] ++ item ∷ []) [] (omega (arith, p.inside, length_mapped (λ p. sent p) ps))
       ∙ ap (λ xs. xs ++ item ∷ []) (sym (sent_as ps w))

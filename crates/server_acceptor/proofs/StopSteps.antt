@@ -15,12 +15,14 @@ use Rattle.std.specs.List.{list_all}
 use Rattle.server_run.specs.Delivery.{once_below, rest_at}
 use Rattle.server_run.specs.Listener.{Mark}
 use Rattle.server_run.specs.declared.entry.Entry.{Entry}
+use Rattle.server_acceptor.proofs.PutSteps.{puts_at, puts_kept}
+use Rattle.server_acceptor.specs.Accepting.{Puts}
 use Rattle.server_acceptor.proofs.Giving.{adds_none}
 use Rattle.server_jobs.specs.Cards.{Card}
 use Rattle.server_jobs.specs.declared.note.Note.TheVariants.{Back, Ready}
 use Rattle.server_jobs.specs.declared.parcel.Parcel.{Parcel}
 use Rattle.server_jobs.specs.declared.parcel.Parcel.TheVariants.{Stop}
-use Rattle.server_acceptor.specs.Accepting.{Proceeds, marks_of, received_at}
+use Rattle.server_acceptor.specs.Accepting.{Acts, Proceeds, marks_of, received_at}
 use Rattle.server_acceptor.specs.Acceptors.{events_of}
 use Rattle.server_acceptor.specs.Carrying.{Carries, IsInPlace, ParcelIsInPlace, came_back, each, has_place, has_serial, in_waiting, let_gone, put}
 use Rattle.server_acceptor.specs.Notes.{count_back}
@@ -37,7 +39,7 @@ abbrev pub PutsStop : {L : Type 0} → List (Producer (Parcel L) Global AnyItems
 PutsStop ps qs = KeepsSent ps qs ⊎ ((w : ℕ) × (graceful : Bool) × PutsAt ps qs w (Stop graceful))
 
 pub stops_none : {L : Type 0} (a : Acceptor L) → StopsOnly a a
-stops_none a = record { core = refl; events = refl; notes = refl; ready = refl; waiting = refl; serial = refl; places = refl; failed = refl; first = refl; retry_limit = refl; shutdown_timeout = refl; lacks_room = refl; stop = refl }
+stops_none a = record { core = refl; events = refl; notes = refl; ready = refl; waiting = refl; serial = refl; places = refl; failed = refl; first = refl; limit = refl; retry_limit = refl; shutdown_timeout = refl; lacks_room = refl; stop = refl }
 
 pub stops_trans : {L : Type 0} (a b c : Acceptor L) → StopsOnly a b → StopsOnly b c → StopsOnly a c
 stops_trans a b c p q = record {
@@ -50,6 +52,7 @@ stops_trans a b c p q = record {
   places = q.places ∙ p.places;
   failed = q.failed ∙ p.failed;
   first = q.first ∙ p.first;
+  limit = q.limit ∙ p.limit;
   retry_limit = q.retry_limit ∙ p.retry_limit;
   shutdown_timeout = q.shutdown_timeout ∙ p.shutdown_timeout;
   lacks_room = q.lacks_room ∙ p.lacks_room;
@@ -65,12 +68,12 @@ module _ {L : Type 0} (identity : L → Identity) (ps qs : List (Producer (Parce
   count_same w (inl k) = count_kept identity ps qs w k
   count_same w (inr p) = count_nothing identity ps qs p.0 w (Stop p.1) p.2 refl
 
-module _ {Li L : Type 0} (given : Li → ℕ) (left : Li → Option (List L)) (identity : L → Identity) (first now : List Li) where
+module _ {Li L : Type 0} (given : Li → ℕ) (left : Li → Option (List L)) (identity : L → Identity) (none_left : Bool) (first now : List Li) where
   in_place : (ps qs : List (Producer (Parcel L) Global AnyItems)) → PutsStop ps qs → All (λ p. All (ParcelIsInPlace left first) (sent p)) ps → All (λ p. All (ParcelIsInPlace left first) (sent p)) qs
   in_place ps qs (inl k) all = all_kept (ParcelIsInPlace left first) ps qs k all
   in_place ps qs (inr p) all = all_sent_on (ParcelIsInPlace left first) ps qs p.0 (Stop p.1) p.2 tt all
 
-  carries_stop : (a b : Acceptor L) (entries : List (Entry L)) → StopsOnly a b → PutsStop a.parcels.items b.parcels.items → Carries given left identity first now a entries → Carries given left identity first now b entries
+  carries_stop : (a b : Acceptor L) (entries : List (Entry L)) → StopsOnly a b → PutsStop a.parcels.items b.parcels.items → Carries given left identity none_left first now a entries → Carries given left identity none_left first now b entries
   carries_stop a b entries s p c =
       let weigh : (h : Card → ℕ) → (put identity h b.parcels.items + in_waiting identity h b.waiting) + let_gone identity h c.gone ≡ (put identity h a.parcels.items + in_waiting identity h a.waiting) + let_gone identity h c.gone =
       λ h. omega (arith, put_same identity a.parcels.items b.parcels.items h p, ap (in_waiting identity h) s.waiting) in
@@ -90,51 +93,60 @@ module _ {Li L : Type 0} (given : Li → ℕ) (left : Li → Option (List L)) (i
         out = λ v. count_same identity a.parcels.items b.parcels.items v p ∙ c.out v ∙ sym (ap₂ (λ n o. count_back identity n.items v + slice_index o.out v) s.notes s.core);
       }
 
+puts_stop : {L : Type 0} (a b : Acceptor L) → PutsStop a.parcels.items b.parcels.items → (w : ℕ) → Puts a b w
+puts_stop a b (inl k) w = puts_kept a b w k
+puts_stop a b (inr p) w = puts_at a b w p.0 (Stop p.1) p.2
+
 module _ {Li L D : Type 0} (given : Li → ℕ) (left : Li → Option (List L)) (rest : Li → Option (List Mark)) (identity : L → Identity) (ended : Li → Bool) (faults : Li → ℕ)
     (taken : D → Option (List (Entry L))) (count served : D → ℕ) where
+  pub stop_acts : (ls : List Li) (a b : Acceptor L) (d : D) → (count d < 2 ^ 64) × (served d < 2 ^ 64) → StopsOnly a b → PutsStop a.parcels.items b.parcels.items → map ring_in b.parcels.items ≡ map ring_in a.parcels.items
+      → Acts given left rest identity ended faults taken count served ls ls a b d d [] false
+  stop_acts ls a b d fits s p rings = record {
+    logged = record {
+      allowed = tt;
+      core = s.core;
+      got = λ t. omega arith;
+      failed = λ t some. absurd (omega (arith, some));
+      marked = λ t. marked_none (rest_at rest ls t) (marks_of t []) refl;
+      failures = λ t. ap (λ k. slice_index k.failures t) s.core;
+      sent_on = λ w. omega (arith, count_same identity a.parcels.items b.parcels.items w p);
+      back = λ w. omega (arith, ap (λ v. count_back identity v.items w) s.notes);
+    };
+    passes = record {
+      more = [];
+      adds = adds_none taken count served d fits;
+      founded = All-nil _;
+      carries = λ none_left is first entries carries. subst (λ es. Carries given left identity none_left first ls b es) (sym (append-nil entries)) (carries_stop given left identity none_left first ls a b entries s p carries);
+    };
+    awaits = record {
+      stays_ready = λ r. ap (λ v. list_all (λ ready. ready) v.items) s.ready ∙ r;
+      early = λ early. untouched_none given left rest identity ended faults taken count served ls d;
+      noted = λ n w marked. subst (λ v. IfSome (slice_get v.items w) (λ c. Contains (received c) Ready)) (sym s.notes) (n w (ap (λ v. slice_index_or v.items w false) (sym s.ready) ∙ marked));
+    };
+    tells = record {
+      ends = λ t before now. absurd (let e : false ≡ true = sym before ∙ ap (λ k. slice_index_or k.ended t false) (sym s.core) ∙ now in cc);
+      stays = λ t is. (refl, ap (λ k. slice_index k.failures t) s.core, ap (λ k. slice_index_or k.ended t false) s.core ∙ is);
+      marks = λ t has. inl has;
+      rises = λ t. omega arith;
+    };
+    rings = record { parcels = rings; notes = ap (λ v. map ring_out v.items) s.notes };
+    puts = λ w. puts_stop a b p w;
+    receives = λ w. record { more = []; came = ap (λ v. received_at v.items w) s.notes ∙ sym (append-nil _) };
+    as_many = refl;
+    workers = ap (λ k. length k.out) s.core;
+    listeners = ap (λ k. length k.ended) s.core;
+    limit = s.retry_limit;
+    max = s.limit;
+    lacks = λ is. s.lacks_room ∙ is;
+    stops = λ is. ap (λ k. is_some k.stopping) s.core ∙ is;
+  }
+
   pub stop_proceeds : (ls : List Li) (a b : Acceptor L) (d : D) → (count d < 2 ^ 64) × (served d < 2 ^ 64) → StopsOnly a b → PutsStop a.parcels.items b.parcels.items → map ring_in b.parcels.items ≡ map ring_in a.parcels.items
       → Proceeds given left rest identity ended faults taken count served ls ls a b d d
   stop_proceeds ls a b d fits s p rings = record {
     more = [];
     appended = ap (λ v. v.items) s.events ∙ sym (append-nil (events_of a));
-    does = record {
-      logged = record {
-        allowed = tt;
-        of_use = tt;
-        core = s.core;
-        got = λ t. omega arith;
-        failed = λ t some. absurd (omega (arith, some));
-        marked = λ t. marked_none (rest_at rest ls t) (marks_of t []) refl;
-        failures = λ t. ap (λ k. slice_index k.failures t) s.core;
-        sent_on = λ w. omega (arith, count_same identity a.parcels.items b.parcels.items w p);
-        back = λ w. omega (arith, ap (λ v. count_back identity v.items w) s.notes);
-      };
-      passes = record {
-        more = [];
-        adds = adds_none taken count served d fits;
-        founded = All-nil _;
-        carries = λ first entries carries. subst (λ es. Carries given left identity first ls b es) (sym (append-nil entries)) (carries_stop given left identity first ls a b entries s p carries);
-      };
-      awaits = record {
-        stays_ready = λ r. ap (λ v. list_all (λ ready. ready) v.items) s.ready ∙ r;
-        early = λ early. untouched_none given left rest identity ended faults taken count served ls d;
-        noted = λ n w marked. subst (λ v. IfSome (slice_get v.items w) (λ c. Contains (received c) Ready)) (sym s.notes) (n w (ap (λ v. slice_index_or v.items w false) (sym s.ready) ∙ marked));
-      };
-      tells = record {
-        ends = λ t before now. absurd (let e : false ≡ true = sym before ∙ ap (λ k. slice_index_or k.ended t false) (sym s.core) ∙ now in cc);
-        stays = λ t is. (refl, ap (λ k. slice_index k.failures t) s.core, ap (λ k. slice_index_or k.ended t false) s.core ∙ is);
-        marks = λ t has. inl has;
-        rises = λ t. omega arith;
-      };
-      rings = record { parcels = rings; notes = ap (λ v. map ring_out v.items) s.notes };
-      receives = λ w. record { more = []; came = ap (λ v. received_at v.items w) s.notes ∙ sym (append-nil _) };
-      as_many = refl;
-      workers = ap (λ k. length k.out) s.core;
-      listeners = ap (λ k. length k.ended) s.core;
-      limit = s.retry_limit;
-      lacks = λ is. s.lacks_room ∙ is;
-      stops = λ is. ap (λ k. is_some k.stopping) s.core ∙ is;
-    };
+    does = record { acts = stop_acts ls a b d fits s p rings; of_use = tt };
   }
 
 -- ---- which workers got their stop

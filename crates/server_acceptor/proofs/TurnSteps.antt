@@ -5,6 +5,7 @@ use Rattle.std.proofs.lemmas.Bool.Decides.{nat_tests}
 use Rattle.std.specs.FinSet as set
 use Rattle.rtrb.specs.Ring.{known_items, received, sent}
 use Rattle.server_core.specs.declared.event.Event.TheVariants.{RingFull}
+use Rattle.server_acceptor.specs.Sending.{sent_to}
 use Rattle.server_acceptor.specs.declared.accept_turn.AcceptTurn.TheVariants.{WorkerEnded as TurnEnded}
 use Rattle.server_core.specs.Runs.{AllAllowed, after_all}
 use Rattle.server_jobs.specs.Cards.{Card}
@@ -41,6 +42,7 @@ pub record SameBut {L : Type 0} (a b : Acceptor L) : Type 0 where
   pub serial : b.serial ≡ a.serial
   pub places : b.places ≡ a.places
   pub failed : b.failed ≡ a.failed
+  pub limit : b.limit ≡ a.limit
   pub retry_limit : b.retry_limit ≡ a.retry_limit
   pub lacks_room : b.lacks_room ≡ a.lacks_room
 
@@ -54,12 +56,13 @@ same_back a b s = record {
   serial = sym s.serial;
   places = sym s.places;
   failed = sym s.failed;
+  limit = sym s.limit;
   retry_limit = sym s.retry_limit;
   lacks_room = sym s.lacks_room;
 }
 
-module _ {Li L : Type 0} (given : Li → ℕ) (left : Li → Option (List L)) (identity : L → Identity) (first now : List Li) where
-  carries_same : (a b : Acceptor L) (entries : List (Entry L)) → SameBut a b → Carries given left identity first now a entries → Carries given left identity first now b entries
+module _ {Li L : Type 0} (given : Li → ℕ) (left : Li → Option (List L)) (identity : L → Identity) (none_left : Bool) (first now : List Li) where
+  carries_same : (a b : Acceptor L) (entries : List (Entry L)) → SameBut a b → Carries given left identity none_left first now a entries → Carries given left identity none_left first now b entries
   carries_same a b entries s c = record {
     gone = c.gone;
     let_go = c.let_go;
@@ -83,65 +86,77 @@ module _ {Li L D : Type 0} (given : Li → ℕ) (left : Li → Option (List L)) 
     (taken : D → Option (List (Entry L))) (count served : D → ℕ) (l m : List Li) (x y : D) (events : List Event) where
   -- a part that began at an acceptor that was the same
   pub does_began : (a a2 b : Acceptor L) → SameBut a a2 → Does given left rest identity ended faults taken count served l m a b x y events → Does given left rest identity ended faults taken count served l m a2 b x y events
-  does_began a a2 b s p = record {
-    logged = record {
-      allowed = subst (λ k. AllAllowed k events) (sym s.core) p.logged.allowed;
-      of_use = subst (λ k. AllOfUse k events) (sym s.core) p.logged.of_use;
-      core = p.logged.core ∙ ap (λ k. after_all k events) (sym s.core);
-      got = p.logged.got;
-      failed = p.logged.failed;
-      marked = p.logged.marked;
-      failures = λ t. p.logged.failures t ∙ ap (λ k. in_a_row (slice_index k.failures t) (marks_of t events)) (sym s.core);
-      sent_on = λ w. p.logged.sent_on w ∙ ap (λ v. count_put identity v.items w + count_by (is_sent w) events) (sym s.parcels);
-      back = λ w. p.logged.back w ∙ ap (λ v. count_back identity v.items w + count_by (is_back w) events) (sym s.notes);
-    };
-    passes = record { more = p.passes.more; adds = p.passes.adds; founded = p.passes.founded; carries = λ first entries c. p.passes.carries first entries (carries_same given left identity first l a2 a entries (same_back a a2 s) c) };
-    awaits = record {
-      stays_ready = λ r. p.awaits.stays_ready (ap (λ v. list_all (λ ready. ready) v.items) (sym s.ready) ∙ r);
-      early = p.awaits.early;
-      noted = λ n. p.awaits.noted (λ w marked. subst (λ v. IfSome (slice_get v.items w) (λ c. Contains (received c) Ready)) s.notes (n w (ap (λ v. slice_index_or v.items w false) s.ready ∙ marked)));
-    };
-    tells = subst (λ k. TellsEnds ended faults k l m a2.core b.core) (sym s.retry_limit) (subst (λ k. TellsEnds ended faults a.retry_limit l m k b.core) (sym s.core) p.tells);
-    rings = record { parcels = p.rings.parcels ∙ ap (λ v. map ring_in v.items) (sym s.parcels); notes = p.rings.notes ∙ ap (λ v. map ring_out v.items) (sym s.notes) };
-    receives = λ w. record { more = (p.receives w).more; came = (p.receives w).came ∙ ap (λ v. received_at v.items w ++ (p.receives w).more) (sym s.notes) };
-    as_many = p.as_many;
-    workers = p.workers ∙ ap (λ k. length k.out) (sym s.core);
-    listeners = p.listeners ∙ ap (λ k. length k.ended) (sym s.core);
-    limit = p.limit ∙ sym s.retry_limit;
-    lacks = λ is. p.lacks (sym s.lacks_room ∙ is);
-    stops = λ is. p.stops (ap (λ k. is_some k.stopping) (sym s.core) ∙ is);
-  }
+  does_began a a2 b s q =
+      let p = q.acts in
+      record {
+        acts = record {
+          logged = record {
+            allowed = subst (λ k. AllAllowed k events) (sym s.core) p.logged.allowed;
+            core = p.logged.core ∙ ap (λ k. after_all k events) (sym s.core);
+            got = p.logged.got;
+            failed = p.logged.failed;
+            marked = p.logged.marked;
+            failures = λ t. p.logged.failures t ∙ ap (λ k. in_a_row (slice_index k.failures t) (marks_of t events)) (sym s.core);
+            sent_on = λ w. p.logged.sent_on w ∙ ap (λ v. count_put identity v.items w + count_by (is_sent w) events) (sym s.parcels);
+            back = λ w. p.logged.back w ∙ ap (λ v. count_back identity v.items w + count_by (is_back w) events) (sym s.notes);
+          };
+          passes = record { more = p.passes.more; adds = p.passes.adds; founded = p.passes.founded; carries = λ none_left is first entries c. p.passes.carries none_left is first entries (carries_same given left identity none_left first l a2 a entries (same_back a a2 s) c) };
+          awaits = record {
+            stays_ready = λ r. p.awaits.stays_ready (ap (λ v. list_all (λ ready. ready) v.items) (sym s.ready) ∙ r);
+            early = p.awaits.early;
+            noted = λ n. p.awaits.noted (λ w marked. subst (λ v. IfSome (slice_get v.items w) (λ c. Contains (received c) Ready)) s.notes (n w (ap (λ v. slice_index_or v.items w false) s.ready ∙ marked)));
+          };
+          tells = subst (λ k. TellsEnds ended faults k l m a2.core b.core) (sym s.retry_limit) (subst (λ k. TellsEnds ended faults a.retry_limit l m k b.core) (sym s.core) p.tells);
+          rings = record { parcels = p.rings.parcels ∙ ap (λ v. map ring_in v.items) (sym s.parcels); notes = p.rings.notes ∙ ap (λ v. map ring_out v.items) (sym s.notes) };
+          puts = λ w. record { more = (p.puts w).more; went = (p.puts w).went ∙ ap (λ v. sent_to v.items w ++ (p.puts w).more) (sym s.parcels) };
+          receives = λ w. record { more = (p.receives w).more; came = (p.receives w).came ∙ ap (λ v. received_at v.items w ++ (p.receives w).more) (sym s.notes) };
+          as_many = p.as_many;
+          workers = p.workers ∙ ap (λ k. length k.out) (sym s.core);
+          listeners = p.listeners ∙ ap (λ k. length k.ended) (sym s.core);
+          limit = p.limit ∙ sym s.retry_limit;
+          max = p.max ∙ sym s.limit;
+          lacks = λ is. p.lacks (sym s.lacks_room ∙ is);
+          stops = λ is. p.stops (ap (λ k. is_some k.stopping) (sym s.core) ∙ is);
+        };
+        of_use = subst (λ k. AllOfUse k events) (sym s.core) q.of_use;
+      }
 
   -- and one that came to an acceptor that is the same
   pub does_came : (a b b2 : Acceptor L) → SameBut b b2 → Does given left rest identity ended faults taken count served l m a b x y events → Does given left rest identity ended faults taken count served l m a b2 x y events
-  does_came a b b2 s p = record {
-    logged = record {
-      allowed = p.logged.allowed;
-      of_use = p.logged.of_use;
-      core = s.core ∙ p.logged.core;
-      got = p.logged.got;
-      failed = p.logged.failed;
-      marked = p.logged.marked;
-      failures = λ t. ap (λ k. slice_index k.failures t) s.core ∙ p.logged.failures t;
-      sent_on = λ w. ap (λ v. count_put identity v.items w) s.parcels ∙ p.logged.sent_on w;
-      back = λ w. ap (λ v. count_back identity v.items w) s.notes ∙ p.logged.back w;
-    };
-    passes = record { more = p.passes.more; adds = p.passes.adds; founded = subst (λ k. All (λ (e : Entry L). is_stopped e.outcome ≡ true → is_some k.stopping ≡ true) p.passes.more) (sym s.core) p.passes.founded; carries = λ first entries c. carries_same given left identity first m b b2 (entries ++ p.passes.more) s (p.passes.carries first entries c) };
-    awaits = record {
-      stays_ready = λ r. ap (λ v. list_all (λ ready. ready) v.items) s.ready ∙ p.awaits.stays_ready r;
-      early = λ lacks. p.awaits.early (ap (λ v. list_all (λ ready. ready) v.items) (sym s.ready) ∙ lacks);
-      noted = λ n w marked. subst (λ v. IfSome (slice_get v.items w) (λ c. Contains (received c) Ready)) (sym s.notes) (p.awaits.noted n w (ap (λ v. slice_index_or v.items w false) (sym s.ready) ∙ marked));
-    };
-    tells = subst (λ k. TellsEnds ended faults a.retry_limit l m a.core k) (sym s.core) p.tells;
-    rings = record { parcels = ap (λ v. map ring_in v.items) s.parcels ∙ p.rings.parcels; notes = ap (λ v. map ring_out v.items) s.notes ∙ p.rings.notes };
-    receives = λ w. record { more = (p.receives w).more; came = ap (λ v. received_at v.items w) s.notes ∙ (p.receives w).came };
-    as_many = p.as_many;
-    workers = ap (λ k. length k.out) s.core ∙ p.workers;
-    listeners = ap (λ k. length k.ended) s.core ∙ p.listeners;
-    limit = s.retry_limit ∙ p.limit;
-    lacks = λ is. s.lacks_room ∙ p.lacks is;
-    stops = λ is. ap (λ k. is_some k.stopping) s.core ∙ p.stops is;
-  }
+  does_came a b b2 s q =
+      let p = q.acts in
+      record {
+        acts = record {
+          logged = record {
+            allowed = p.logged.allowed;
+            core = s.core ∙ p.logged.core;
+            got = p.logged.got;
+            failed = p.logged.failed;
+            marked = p.logged.marked;
+            failures = λ t. ap (λ k. slice_index k.failures t) s.core ∙ p.logged.failures t;
+            sent_on = λ w. ap (λ v. count_put identity v.items w) s.parcels ∙ p.logged.sent_on w;
+            back = λ w. ap (λ v. count_back identity v.items w) s.notes ∙ p.logged.back w;
+          };
+          passes = record { more = p.passes.more; adds = p.passes.adds; founded = subst (λ k. All (λ (e : Entry L). is_stopped e.outcome ≡ true → is_some k.stopping ≡ true) p.passes.more) (sym s.core) p.passes.founded; carries = λ none_left is first entries c. carries_same given left identity none_left first m b b2 (entries ++ p.passes.more) s (p.passes.carries none_left is first entries c) };
+          awaits = record {
+            stays_ready = λ r. ap (λ v. list_all (λ ready. ready) v.items) s.ready ∙ p.awaits.stays_ready r;
+            early = λ lacks. p.awaits.early (ap (λ v. list_all (λ ready. ready) v.items) (sym s.ready) ∙ lacks);
+            noted = λ n w marked. subst (λ v. IfSome (slice_get v.items w) (λ c. Contains (received c) Ready)) (sym s.notes) (p.awaits.noted n w (ap (λ v. slice_index_or v.items w false) (sym s.ready) ∙ marked));
+          };
+          tells = subst (λ k. TellsEnds ended faults a.retry_limit l m a.core k) (sym s.core) p.tells;
+          rings = record { parcels = ap (λ v. map ring_in v.items) s.parcels ∙ p.rings.parcels; notes = ap (λ v. map ring_out v.items) s.notes ∙ p.rings.notes };
+          puts = λ w. record { more = (p.puts w).more; went = ap (λ v. sent_to v.items w) s.parcels ∙ (p.puts w).went };
+          receives = λ w. record { more = (p.receives w).more; came = ap (λ v. received_at v.items w) s.notes ∙ (p.receives w).came };
+          as_many = p.as_many;
+          workers = ap (λ k. length k.out) s.core ∙ p.workers;
+          listeners = ap (λ k. length k.ended) s.core ∙ p.listeners;
+          limit = s.retry_limit ∙ p.limit;
+          max = s.limit ∙ p.max;
+          lacks = λ is. s.lacks_room ∙ p.lacks is;
+          stops = λ is. ap (λ k. is_some k.stopping) s.core ∙ p.stops is;
+        };
+        of_use = q.of_use;
+      }
 
 -- A turn: it begins with no event, and ends with the stops, which are no events.
 module _ {Li L D : Type 0} (given : Li → ℕ) (left : Li → Option (List L)) (rest : Li → Option (List Mark)) (identity : L → Identity) (ended : Li → Bool) (faults : Li → ℕ)

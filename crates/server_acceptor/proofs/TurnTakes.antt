@@ -49,7 +49,7 @@ module _ {L D Co : Type 0} (taken : D → Option (List (Entry L))) (count served
     where
       by_idle : (v : ℕ) → 0 < count_by (is_got v) p.more → (i : Bool) → idle ≡ i → Rose (idles before) (idles after)
       by_idle v some true is = t.none_left is
-      by_idle v some false is = absurd (omega (arith, some, p.does.logged.got v, ap (λ ls. given_at given_li ls v) (unasked is)))
+      by_idle v some false is = absurd (omega (arith, some, p.does.acts.logged.got v, ap (λ ls. given_at given_li ls v) (unasked is)))
 
 -- the same where the events are the same
 pub takes_same : {Co : Type 0} (given : Co → Option (List Command)) (stops idles : Co → ℕ) (ended : Co → Bool) (s : Core) (before after : Co) (events then_these : List Event)

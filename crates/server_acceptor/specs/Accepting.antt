@@ -17,16 +17,17 @@ use Rattle.server_run.specs.Listener.{Mark, fails, gives, in_a_row}
 use Rattle.server_run.specs.Serving.{Untouched}
 use Rattle.server_run.specs.declared.entry.Entry.{Entry}
 use Rattle.server_run.specs.declared.report.End.{End}
-use Rattle.server_run.specs.declared.report.End.TheVariants.{Drained, Stopped, Memory}
+use Rattle.server_run.specs.declared.report.End.TheVariants.{Drained, Stopped, NoWorkers, Memory}
 use Rattle.server_jobs.specs.declared.note.Note.TheVariants.{Ready as ReadyNote, Faulted as FaultedNote}
 use Rattle.server_jobs.specs.declared.note.Note.{Note}
+use Rattle.server_jobs.specs.declared.parcel.Parcel.{Parcel}
 use Rattle.server_acceptor.specs.Carrying.{Carries}
 use Rattle.server_acceptor.specs.Logging.{AllOfUse}
 use Rattle.server_acceptor.specs.Notes.{AreLeft, count_back}
 use Rattle.server_acceptor.specs.Rings.{KeepsRings, count_put}
-use Rattle.server_acceptor.specs.Sending.{IsForced}
+use Rattle.server_acceptor.specs.Sending.{IsForced, sent_to}
 use Rattle.server_acceptor.specs.Stopping.{AwaitsStop, LacksStop}
-use Rattle.server_acceptor.specs.Acceptors.{all_ready, core_of, events_of, failed_of, first_of, forced_of, lacks_room_of, listeners_of, notes_of, parcels_of, ready_of, retry_limit_of, shutdown_timeout_of, stop_of, stopped_of, waiting_of, workers_of}
+use Rattle.server_acceptor.specs.Acceptors.{all_ready, core_of, events_of, failed_of, first_of, forced_of, lacks_room_of, limit_of, listeners_of, notes_of, parcels_of, ready_of, retry_limit_of, shutdown_timeout_of, stop_of, stopped_of, waiting_of, workers_of}
 use Rattle.server_acceptor.specs.declared.acceptor.Acceptor.{Acceptor}
 
 -- the kinds of events
@@ -61,11 +62,10 @@ abbrev pub marks_of : ℕ → List Event → List Mark
 marks_of t [] = []
 marks_of t (e ∷ es) = mark_of t e ++ marks_of t es
 
--- These events happened, each allowed and of use where it stands. The core is what they make of it, and they tell what the listeners
--- and the rings did.
+-- These events happened, each allowed where it stands. The core is what they make of it, and they tell what the listeners and the
+-- rings did.
 pub record Logged {Li L : Type 0} (given : Li → ℕ) (rest : Li → Option (List Mark)) (faults : Li → ℕ) (identity : L → Identity) (before after : List Li) (a b : Acceptor L) (events : List Event) : Type 0 where
   pub allowed : AllAllowed (core_of a) events
-  pub of_use : AllOfUse (core_of a) events
   pub core : core_of b ≡ after_all (core_of a) events
   pub got : (t : ℕ) → given_at given after t ≡ given_at given before t + count_by (is_got t) events
   pub failed : (t : ℕ) → 0 < count_by (is_failed t) events → Rose (given_at faults before t) (given_at faults after t)
@@ -76,14 +76,16 @@ pub record Logged {Li L : Type 0} (given : Li → ℕ) (rest : Li → Option (Li
   pub sent_on : (w : ℕ) → count_put identity (parcels_of b) w ≡ count_put identity (parcels_of a) w + count_by (is_sent w) events
   pub back : (w : ℕ) → count_back identity (notes_of b) w ≡ count_back identity (notes_of a) w + count_by (is_back w) events
 
--- What it took from the rings was added to `done`, and what it took from the listeners is carried as what came before.
+-- What it took from the rings was added to `done`, and what it took from the listeners is carried as what came before. Only where
+-- `last` says that no worker is left it let something go for that.
 pub record Passes {Li L D : Type 0} (given : Li → ℕ) (left : Li → Option (List L)) (identity : L → Identity) (taken : D → Option (List (Entry L))) (count served : D → ℕ)
-    (before after : List Li) (a b : Acceptor L) (old new : D) : Type 0 where
+    (before after : List Li) (a b : Acceptor L) (old new : D) (last : Bool) : Type 0 where
   pub more : List (Entry L)
   pub adds : Adds taken count served old new more
   -- one that was stopped came only after a stop
   pub founded : All (λ e. is_stopped e.outcome ≡ true → is_some (core_of b).stopping ≡ true) more
-  pub carries : (first : List Li) (entries : List (Entry L)) → Carries given left identity first before a entries → Carries given left identity first after b (entries ++ more)
+  pub carries : (none_left : Bool) → (last ≡ true → none_left ≡ true) → (first : List Li) (entries : List (Entry L)) → Carries given left identity none_left first before a entries
+      → Carries given left identity none_left first after b (entries ++ more)
 
 -- The core tells of a listener that it ended where it did, or where it failed as often as it may.
 pub record TellsEnds {Li : Type 0} (ended : Li → Bool) (faults : Li → ℕ) (retry_limit : ℕ) (before after : List Li) (old new : Core) : Type 0 where
@@ -116,26 +118,40 @@ pub record Receives {L : Type 0} (a b : Acceptor L) (w : ℕ) : Type 0 where
   pub more : List (Note L)
   pub came : received_at (notes_of b) w ≡ received_at (notes_of a) w ++ more
 
--- What the acceptor did from a to b, by these events, with the listeners and the holder of what is done that it was lent.
-pub record Does {Li L D : Type 0} (given : Li → ℕ) (left : Li → Option (List L)) (rest : Li → Option (List Mark)) (identity : L → Identity) (ended : Li → Bool) (faults : Li → ℕ)
-    (taken : D → Option (List (Entry L))) (count served : D → ℕ) (before after : List Li) (a b : Acceptor L) (old new : D) (events : List Event) : Type 0 where
+-- more may have gone to w
+pub record Puts {L : Type 0} (a b : Acceptor L) (w : ℕ) : Type 0 where
+  pub more : List (Parcel L)
+  pub went : sent_to (parcels_of b) w ≡ sent_to (parcels_of a) w ++ more
+
+-- What the acceptor did from a to b, by these events, with the listeners and the holder of what is done that it was lent; `last` says
+-- that its end is that no worker is left.
+pub record Acts {Li L D : Type 0} (given : Li → ℕ) (left : Li → Option (List L)) (rest : Li → Option (List Mark)) (identity : L → Identity) (ended : Li → Bool) (faults : Li → ℕ)
+    (taken : D → Option (List (Entry L))) (count served : D → ℕ) (before after : List Li) (a b : Acceptor L) (old new : D) (events : List Event) (last : Bool) : Type 0 where
   -- the core follows the events, and these tell what the listeners and the rings did
   pub logged : Logged given rest faults identity before after a b events
   -- what came is on a ring, waits or was handed on, once
-  pub passes : Passes given left identity taken count served before after a b old new
+  pub passes : Passes given left identity taken count served before after a b old new last
   -- nothing is accepted before all workers are ready
   pub awaits : Awaits given left taken count served before after a b old new
   pub tells : TellsEnds ended faults (retry_limit_of a) before after (core_of a) (core_of b)
   -- the rings and the listeners stay the same ones
   pub rings : KeepsRings a b
+  pub puts : (w : ℕ) → Puts a b w
   pub receives : (w : ℕ) → Receives a b w
   pub as_many : length after ≡ length before
   pub workers : workers_of b ≡ workers_of a
   pub listeners : listeners_of b ≡ listeners_of a
   pub limit : retry_limit_of b ≡ retry_limit_of a
+  pub max : limit_of b ≡ limit_of a
   pub lacks : lacks_room_of a ≡ true → lacks_room_of b ≡ true
   -- a stop is for ever
   pub stops : is_some (core_of a).stopping ≡ true → is_some (core_of b).stopping ≡ true
+
+-- The same while workers are left, by events of use alone.
+pub record Does {Li L D : Type 0} (given : Li → ℕ) (left : Li → Option (List L)) (rest : Li → Option (List Mark)) (identity : L → Identity) (ended : Li → Bool) (faults : Li → ℕ)
+    (taken : D → Option (List (Entry L))) (count served : D → ℕ) (before after : List Li) (a b : Acceptor L) (old new : D) (events : List Event) : Type 0 where
+  pub acts : Acts given left rest identity ended faults taken count served before after a b old new events false
+  pub of_use : AllOfUse (core_of a) events
 
 -- The same by more events than before.
 pub record Proceeds {Li L D : Type 0} (given : Li → ℕ) (left : Li → Option (List L)) (rest : Li → Option (List Mark)) (identity : L → Identity) (ended : Li → Bool) (faults : Li → ℕ)
@@ -279,6 +295,7 @@ Finishes a Drained = ((t : ℕ) → t < listeners_of a → slice_index_or (core_
     × (waiting_of a ≡ None) × (sum (core_of a).out ≡ 0) × All (λ stopped. stopped ≡ true) (stopped_of a) × ((core_of a).stopping ≡ None)
 Finishes a (Stopped graceful) = ((core_of a).stopping ≡ Some graceful)
     × (waiting_of a ≡ None) × All (λ stopped. stopped ≡ true) (stopped_of a) × ((sum (core_of a).out ≡ 0) ⊎ All (λ forced. forced ≡ true) (forced_of a))
+Finishes a NoWorkers = ⊥
 Finishes a Memory = (lacks_room_of a ≡ true)
     × (waiting_of a ≡ None) × (sum (core_of a).out ≡ 0) × All (λ stopped. stopped ≡ true) (stopped_of a) × ((core_of a).stopping ≡ None)
 

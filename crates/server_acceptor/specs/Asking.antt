@@ -44,6 +44,7 @@ pub record MakesRoom {L : Type 0} (a b : Acceptor L) : Type 0 where
   pub places : b.places ≡ a.places
   pub failed : b.failed ≡ a.failed
   pub first : b.first ≡ a.first
+  pub limit : b.limit ≡ a.limit
   pub retry_limit : b.retry_limit ≡ a.retry_limit
   pub forced : b.forced ≡ a.forced
   pub stop : b.stop ≡ a.stop

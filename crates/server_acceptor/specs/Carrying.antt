@@ -1,5 +1,5 @@
--- Where the connections are that the listeners gave: on the way to a worker, waiting, let go at a stop, or come back.
-use Rattle.std.specs.Prelude.{◌≡◌, ◌⊎◌, ◌≤◌, ◌<◌, ⊤, ℕ, ◌+◌, ◌==◌, ◌&&◌, Bool, false, cond, List, length, drop, sum_by, All, Any, Contains, Option, Some, IfSome, slice_get, slice_index, slice_index_or}
+-- Where the connections are that the listeners gave: on the way to a worker, waiting, let go, or come back.
+use Rattle.std.specs.Prelude.{◌≡◌, ◌⊎◌, ◌≤◌, ◌<◌, ⊤, ℕ, ◌+◌, ◌==◌, ◌&&◌, Bool, true, false, cond, List, length, drop, sum_by, All, Any, Contains, Option, Some, None, IfSome, slice_get, slice_index, slice_index_or}
 use Rattle.std.specs.Option.{option_map, option_map_or}
 use Rattle.rtrb.specs.Ring.{received, sent}
 use Rattle.rtrb.specs.declared.consumer.Consumer.{Consumer}
@@ -7,7 +7,7 @@ use Rattle.rtrb.specs.declared.producer.Producer.{Producer}
 use Rattle.service_core.specs.Link.{Identity}
 use Rattle.server_run.specs.Delivery.{given_at, left_at, once_below, rise}
 use Rattle.server_run.specs.declared.entry.Entry.{Entry}
-use Rattle.server_run.specs.declared.outcome.Outcome.TheVariants.{Stopped}
+use Rattle.server_run.specs.declared.outcome.Outcome.TheVariants.{Lost, Stopped}
 use Rattle.server_jobs.specs.Cards.{Card, of_entry, of_note, of_parcel, of_waiting}
 use Rattle.server_acceptor.specs.Notes.{count_back}
 use Rattle.server_acceptor.specs.Rings.{count_put}
@@ -53,16 +53,16 @@ abbrev pub ParcelIsInPlace : {Li L : Type 0} → (Li → Option (List L)) → Li
 ParcelIsInPlace left old (Conn s t p link) = IsInPlace left old t p link
 ParcelIsInPlace left old (Stop graceful) = ⊤
 
--- the acceptor let it go at a stop, with its link as it was accepted
-abbrev pub IsLetGo : {Li L : Type 0} → (Li → Option (List L)) → List Li → Entry L → Type 0
-IsLetGo left old e = (e.outcome ≡ Stopped false) × IsInPlace left old e.token e.place e.link
+-- the acceptor let it go, with its link as it was accepted: at a stop, or, where it says so, since no worker was left
+abbrev pub IsLetGo : {Li L : Type 0} → (Li → Option (List L)) → List Li → Bool → Entry L → Type 0
+IsLetGo left old none_left e = ((e.outcome ≡ Stopped false) ⊎ ((e.outcome ≡ Lost None) × (none_left ≡ true))) × IsInPlace left old e.token e.place e.link
 
 -- From the listeners as they were to the listeners as they are: what they gave was put on rings, waits, or was let go, each once; and
 -- the entries are what came back, and what was let go.
-pub record Carries {Li L : Type 0} (given : Li → ℕ) (left : Li → Option (List L)) (identity : L → Identity) (old new : List Li)
+pub record Carries {Li L : Type 0} (given : Li → ℕ) (left : Li → Option (List L)) (identity : L → Identity) (none_left : Bool) (old new : List Li)
     (a : Acceptor L) (entries : List (Entry L)) : Type 0 where
   pub gone : List (Entry L)
-  pub let_go : All (IsLetGo left old) gone
+  pub let_go : All (IsLetGo left old none_left) gone
   -- the serials are the numbers below their count, each once
   pub count : (put identity (λ c. 1) a.parcels.items + in_waiting identity (λ c. 1) a.waiting) + let_gone identity (λ c. 1) gone ≡ a.serial
   pub serials : (k : ℕ) → (put identity (each (has_serial k)) a.parcels.items + in_waiting identity (each (has_serial k)) a.waiting) + let_gone identity (each (has_serial k)) gone ≡ once_below a.serial k

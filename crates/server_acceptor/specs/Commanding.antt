@@ -12,6 +12,7 @@ use Rattle.server_core.specs.declared.event.Event.TheVariants.{Command as Comman
 use Rattle.server_jobs.specs.declared.waiting.Waiting.{Waiting}
 use Rattle.server_run.specs.Done.{Adds}
 use Rattle.server_run.specs.declared.entry.Entry.{Entry}
+use Rattle.server_run.specs.declared.outcome.Outcome.{Outcome}
 use Rattle.server_run.specs.declared.outcome.Outcome.TheVariants.{Stopped}
 use Rattle.server_acceptor.specs.Accepting.{is_command, is_got}
 use Rattle.server_acceptor.specs.declared.acceptor.Acceptor.{Acceptor}
@@ -85,16 +86,20 @@ goes_at Resume waiting = None
 goes_at (Stop graceful) waiting = waiting
 
 -- a connection that waited, as it is let go
-abbrev pub entry_of : {L : Type 0} → Waiting L → Entry L
-entry_of w = record { serial = w.serial; token = w.token; place = w.place; link = w.link; outcome = Stopped false }
+abbrev pub entry_of : {L : Type 0} → Outcome → Waiting L → Entry L
+entry_of outcome w = record { serial = w.serial; token = w.token; place = w.place; link = w.link; outcome = outcome }
 
-abbrev pub gone_of : {L : Type 0} → Option (Waiting L) → List (Entry L)
-gone_of None = []
-gone_of (Some w) = entry_of w ∷ []
+abbrev pub gone_of : {L : Type 0} → Outcome → Option (Waiting L) → List (Entry L)
+gone_of outcome None = []
+gone_of outcome (Some w) = entry_of outcome w ∷ []
+
+-- nothing was let go, or what waited was, for this reason
+abbrev pub LetsGoAs : {L : Type 0} → Outcome → Type 0 → Acceptor L → Acceptor L → List (Entry L) → Type 0
+LetsGoAs outcome reason a b gone = ((b.waiting ≡ a.waiting) × (gone ≡ [])) ⊎ ((b.waiting ≡ None) × (gone ≡ gone_of outcome a.waiting) × reason)
 
 -- what a command leaves where it is: nothing was let go, or what waited was, at a stop
 abbrev pub LetsGo : {L : Type 0} → Acceptor L → Acceptor L → List (Entry L) → Type 0
-LetsGo a b gone = ((b.waiting ≡ a.waiting) × (gone ≡ [])) ⊎ ((b.waiting ≡ None) × (gone ≡ gone_of a.waiting) × (is_some b.core.stopping ≡ true))
+LetsGo a b gone = LetsGoAs (Stopped false) (is_some b.core.stopping ≡ true) a b gone
 
 -- what commands leave as it was
 pub record KeepsBeside {L : Type 0} (a b : Acceptor L) : Type 0 where

@@ -34,8 +34,9 @@ pub record Lowers {L : Type 0} (a b : Acceptor L) (w : ℕ) : Type 0 where
   pub returns : AllReturn logs.more
   pub backs : (v : ℕ) → count_by (is_back v) logs.more ≡ cond (nat_eq w v) 1 0
 
--- From a to b just these entries came back from the workers, and were handed on; for each worker what is out fell by what came back from it.
-pub record Hands {L D : Type 0} (identity : L → Identity) (taken : D → Option (List (Entry L))) (count served : D → ℕ) (a b : Acceptor L) (old new : D) : Type 0 where
+-- From a to b just these entries came back from the workers, and were handed on; for each worker what is out fell by what came back
+-- from it. The events that came behind those before tell so.
+pub record HandsBy {L D : Type 0} (identity : L → Identity) (taken : D → Option (List (Entry L))) (count served : D → ℕ) (a b : Acceptor L) (old new : D) (before after : List Event) : Type 0 where
   pub entries : List (Entry L)
   pub adds : Adds taken count served old new entries
   pub rings : map ring_out b.notes.items ≡ map ring_out a.notes.items
@@ -64,8 +65,8 @@ pub record Hands {L D : Type 0} (identity : L → Identity) (taken : D → Optio
   pub lacks_room : b.lacks_room ≡ a.lacks_room
   pub first : b.first ≡ a.first
   pub failures : b.core.failures ≡ a.core.failures
-  -- its events tell what came back
-  pub logs : Logs a.core b.core a.events.items b.events.items
+  -- the events tell what came back
+  pub logs : Logs a.core b.core before after
   pub returns : AllReturn logs.more
   pub backs : (w : ℕ) → count_back identity b.notes.items w ≡ count_back identity a.notes.items w + count_by (is_back w) logs.more
   -- a worker that is ready stays so, and told so
@@ -74,6 +75,10 @@ pub record Hands {L D : Type 0} (identity : L → Identity) (taken : D → Optio
   -- nothing comes back where nothing was accepted
   pub early : a.serial ≡ 0 → entries ≡ []
   pub receives : (w : ℕ) → Receives a b w
+
+-- the same, as the acceptor wrote it down
+abbrev pub Hands : {L D : Type 0} → (L → Identity) → (D → Option (List (Entry L))) → (D → ℕ) → (D → ℕ) → Acceptor L → Acceptor L → D → D → Type 0
+Hands identity taken count served a b old new = HandsBy identity taken count served a b old new a.events.items b.events.items
 
 -- The next note of w may be taken: it is no connection, unless one is out, and none that was stopped, unless a stop came.
 abbrev pub MayTake : {L : Type 0} → ℕ → Option Bool → List (Note L) → Type 0

@@ -9,6 +9,7 @@ pub mod Handing
 pub mod Listening
 pub mod Logging
 pub mod Notes
+pub mod Parting
 pub mod Placing
 pub mod Rings
 pub mod Sending

@@ -16,6 +16,7 @@ pub record StopsOnly {L : Type 0} (a b : Acceptor L) : Type 0 where
   pub places : b.places ≡ a.places
   pub failed : b.failed ≡ a.failed
   pub first : b.first ≡ a.first
+  pub limit : b.limit ≡ a.limit
   pub retry_limit : b.retry_limit ≡ a.retry_limit
   pub shutdown_timeout : b.shutdown_timeout ≡ a.shutdown_timeout
   pub lacks_room : b.lacks_room ≡ a.lacks_room

@@ -73,8 +73,8 @@ pub struct Acceptor<L> {
     ghost forced_sent: { AreForced parcels.items forced.items },
     // A listener that failed as often as it may has ended.
     ghost patient: { (t : ℕ) → slice_index_or core.ended t true ≡ false → slice_index core.failures t < retry_limit },
-    // Each worker is in order, as long as none ends by a fault.
-    ghost in_turn: { (w : ℕ) → w < length core.out → in_order core.order w ≡ true },
     // A worker in order is free exactly where it has fewer connections than it may have.
     ghost rule: { (w : ℕ) → in_order core.order w ≡ true → set.contains core.free w ≡ nat_lt (slice_index core.out w) limit },
+    // A worker may have one connection at least.
+    ghost some_limit: { 0 < limit },
 }

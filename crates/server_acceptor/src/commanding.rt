@@ -19,8 +19,8 @@ use service_core::Link;
 const MOST_COMMANDS: usize = 256;
 
 // The entry of a connection that no service began with.
-fn let_go<L>(waiting: Waiting<L>) -> Entry<L>
-    ensures { result ≡ entry_of waiting }
+fn let_go<L>(waiting: Waiting<L>, outcome: Outcome) -> Entry<L>
+    ensures { result ≡ entry_of outcome waiting }
 {
     let Waiting {
         serial,
@@ -33,18 +33,22 @@ fn let_go<L>(waiting: Waiting<L>) -> Entry<L>
         token,
         place,
         link,
-        outcome: Outcome::Stopped { forced: false },
+        outcome,
     }
 }
 
 // Hands on what waited, as it is.
-fn hand_on<L: Link, Do: Done<L>>(waiting: Option<Waiting<L>>, done: &mut Do)
-    requires spare { length (gone_of waiting) ≤ Do.spare done.old }
-    ensures adds { Adds Do.taken Do.count Do.served done.old done.new (gone_of waiting) }
-    ensures spare { Do.spare done.new + length (gone_of waiting) ≡ Do.spare done.old }
+pub(crate) fn hand_on<L: Link, Do: Done<L>>(
+    waiting: Option<Waiting<L>>,
+    outcome: Outcome,
+    done: &mut Do,
+)
+    requires spare { length (gone_of outcome waiting) ≤ Do.spare done.old }
+    ensures adds { Adds Do.taken Do.count Do.served done.old done.new (gone_of outcome waiting) }
+    ensures spare { Do.spare done.new + length (gone_of outcome waiting) ≡ Do.spare done.old }
 {
     match waiting {
-        Some(waiting) => done.take(let_go(waiting)),
+        Some(waiting) => done.take(let_go(waiting, outcome)),
         None => {}
     }
 }
@@ -92,7 +96,7 @@ impl<L: Link> Acceptor<L> {
         self.stop = first_stop(self.stop, command, now);
         let (waiting, gone) = split(self.waiting.take(), command);
         self.waiting = waiting;
-        hand_on(gone, done);
+        hand_on(gone, Outcome::Stopped { forced: false }, done);
     }
 
     // Carries a command out. Before a stop it is settled then.

@@ -1,7 +1,7 @@
 //! How the acceptor takes back what the workers hand it.
-ghost use Rattle.std.specs.Prelude.{◌≡◌, ◌≢◌, ◌+◌, ◌-◌, ◌*◌, ◌≤◌, ◌<◌, ℕ, length, vec_len, sum, IfSome, IsFalse, slice_get, slice_index, slice_set};
+ghost use Rattle.std.specs.Prelude.{◌≡◌, ◌≢◌, ◌+◌, ◌-◌, ◌*◌, ◌≤◌, ◌<◌, ℕ, true, length, vec_len, sum, IfSome, IsTrue, IsFalse, slice_get, slice_index, slice_set};
 ghost use Rattle.rtrb.specs.Ring.{known_items};
-ghost use Rattle.server_core.specs.Core.{held};
+ghost use Rattle.server_core.specs.Core.{held, in_order};
 ghost use Rattle.server_acceptor.specs.Accepting.{EndsByFault, HasTold};
 ghost use Rattle.server_acceptor.specs.Handing.{known_at, Hands, Lowers, MayTake};
 ghost use Rattle.server_acceptor.specs.Logging.{Logs};
@@ -15,7 +15,19 @@ use server_run::Done;
 use service_core::Link;
 
 impl<L: Link> Acceptor<L> {
-    // One connection is out less at a worker, which is free then.
+    // Whether a worker is in order, and has as many connections as it may have.
+    fn is_full(&self, w: usize) -> bool
+        requires number { w < length self.now.core.out }
+        ensures yes { IsTrue result → (in_order self.now.core.order w ≡ true) × (slice_index self.now.core.out w ≡ self.now.limit) }
+        ensures no { IsFalse result → in_order self.now.core.order w ≡ true → slice_index self.now.core.out w ≢ self.now.limit }
+    {
+        if self.core.out(w) != self.limit {
+            return false;
+        }
+        self.core.allows(&Event::Faulted(w))
+    }
+
+    // One connection is out less at a worker, which is free then, if it is in order.
     fn lower(&mut self, w: usize)
         requires number { w < length self.old.core.out }
         requires out { 0 < slice_index self.old.core.out w }
@@ -35,7 +47,7 @@ impl<L: Link> Acceptor<L> {
         ensures waiting { self.new.waiting ≡ self.old.waiting }
         ensures stays { Stays self.old self.new }
     {
-        let was_full = self.core.out(w) == self.limit;
+        let was_full = self.is_full(w);
         self.out -= 1;
         log(&mut self.core, &mut self.events, Event::Back(w));
         if was_full {

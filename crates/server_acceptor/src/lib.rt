@@ -14,6 +14,7 @@ mod laws;
 mod listening;
 mod logging;
 mod noting;
+mod parting;
 mod placed;
 mod placing;
 mod room;

@@ -1,5 +1,5 @@
 //! How the acceptor asks a listener.
-ghost use Rattle.std.specs.Prelude.{◌≡◌, ◌≢◌, ◌+◌, ◌*◌, ◌≤◌, ◌<◌, ◌^◌, ◌++◌, ◌∷◌, [], ℕ, List, true, None, length, vec_len, slice_index, slice_index_or};
+ghost use Rattle.std.specs.Prelude.{◌≡◌, ◌≢◌, ◌+◌, ◌*◌, ◌≤◌, ◌<◌, ◌^◌, ◌++◌, ◌∷◌, [], ℕ, Bool, List, true, None, length, vec_len, slice_index, slice_index_or};
 ghost use Rattle.server_core.specs.Core.{is_open, may_take};
 ghost use Rattle.server_core.specs.declared.event.Event.TheVariants.{ListenerEnded};
 ghost use Rattle.server_run.specs.Delivery.{HasEnded, given_at, rest_at};
@@ -111,8 +111,8 @@ impl<L: Link> Acceptor<L> {
         ensures failed { (v : ℕ) → v ≢ t → slice_index_or self.new.failed.items v None ≡ slice_index_or self.old.failed.items v None }
         ensures leaves { Leaves self.old self.new t result }
         ensures asked { IsAsked Li.given Li.waits Li.skips Li.faults Li.ended listeners.old.items listeners.new.items self.old self.new t now result }
-        ensures carries { (first : List Li) (entries : List (Entry L)) → Carries Li.given Li.left L.identity first listeners.old.items self.old entries
-            → Carries Li.given Li.left L.identity first listeners.new.items self.new entries }
+        ensures carries { (none_left : Bool) (first : List Li) (entries : List (Entry L)) → Carries Li.given Li.left L.identity none_left first listeners.old.items self.old entries
+            → Carries Li.given Li.left L.identity none_left first listeners.new.items self.new entries }
     {
         match accept_at(listeners, t) {
             Accepted::Got(link) => {

@@ -13,6 +13,12 @@ pub(crate) enum Act {
     Place,
     /// The worker of that number does this.
     Worker(usize, Deed),
+    /// The worker of that number leaves the order.
+    Leave(usize),
+    /// It is put back in the order.
+    Replace(usize),
+    /// It is retired.
+    Retire(usize),
     /// What came back.
     Entries,
     /// Whether each of so many connections of each listener came back once.

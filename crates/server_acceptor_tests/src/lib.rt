@@ -16,6 +16,10 @@ mod end_tests;
 #[cfg(test)]
 mod log;
 #[cfg(test)]
+mod one_worker;
+#[cfg(test)]
+mod parting_tests;
+#[cfg(test)]
 mod plan;
 #[cfg(test)]
 mod rings;

@@ -86,8 +86,17 @@ impl Log {
             AcceptTurn::Finished(End::Stopped { graceful: false }) => self.word(
                 ", stopped at once",
             ),
+            AcceptTurn::Finished(End::NoWorkers) => self.word(", no workers"),
             AcceptTurn::Finished(End::Memory) => self.word(", memory"),
         }
+    }
+
+    /// A turn, by its events and by what it comes to.
+    pub(crate) fn turn(&mut self, events: &[Event], turned: AcceptTurn) {
+        self.word("turn");
+        self.events(events, 0);
+        self.turned(turned);
+        self.word("\n");
     }
 
     /// What the placing by hand comes to.
@@ -97,6 +106,11 @@ impl Log {
             Placed::Waiting => self.word(", waiting"),
             Placed::Nothing => self.word(", nothing"),
         }
+    }
+
+    /// The answer to a call.
+    pub(crate) fn answer(&mut self, answer: bool) {
+        self.word(if answer { ": yes\n" } else { ": no\n" });
     }
 
     // The numbers of a connection, and whether this is its link.
@@ -123,15 +137,25 @@ impl Log {
         }
     }
 
+    // How a connection ended, but that its worker ended it.
+    fn outcome(&mut self, serial: u64, outcome: Outcome) {
+        match outcome {
+            Outcome::Lost { worker: Some(w) } => self.before(" lost by ", w as u64),
+            Outcome::Lost { worker: None } => self.word(" lost"),
+            Outcome::Stopped { forced: _ } => self.word(let_go(outcome)),
+            outcome => {
+                if outcome != outcome_of(serial) {
+                    self.word(" with a wrong outcome");
+                }
+            }
+        }
+    }
+
     // What came back.
     fn entry(&mut self, entry: &Entry<MemoryLink>) {
         self.word("done: ");
         self.connection(entry.serial, entry.token, entry.place, &entry.link);
-        if entry.outcome.is_stopped() {
-            self.word(let_go(entry.outcome));
-        } else if entry.outcome != outcome_of(entry.serial) {
-            self.word(" with a wrong outcome");
-        }
+        self.outcome(entry.serial, entry.outcome);
         self.word("\n");
     }
 

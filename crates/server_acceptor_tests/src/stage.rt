@@ -146,10 +146,7 @@ impl Stage {
     // One turn, by its events.
     fn show_turn(&mut self, task: &MockTask) {
         let turned = self.turn_in(task);
-        self.log.word("turn");
-        self.log.events(self.acceptor.events(), 0);
-        self.log.turned(turned);
-        self.log.word("\n");
+        self.log.turn(self.acceptor.events(), turned);
     }
 
     // One turn, by the numbers of connections that came, of events, and of those for which there is still room.
@@ -188,6 +185,38 @@ impl Stage {
         self.log.word("\n");
     }
 
+    // A worker leaves the order.
+    fn leave(&mut self, w: usize) {
+        if w >= self.workers {
+            return;
+        }
+        self.acceptor.leave::<MemoryListener, Book>(w);
+        self.log.before("leave ", w as u64);
+        self.log.word("\n");
+    }
+
+    // A worker is put back in the order.
+    fn replace(&mut self, w: usize) {
+        if w >= self.workers {
+            return;
+        }
+        let replaced = self.acceptor.replace::<MemoryListener, Book>(w);
+        self.log.before("replace ", w as u64);
+        self.log.answer(replaced);
+    }
+
+    // A worker is retired.
+    fn retire(&mut self, w: usize) {
+        if w >= self.workers {
+            return;
+        }
+        let last = self
+            .acceptor
+            .retire::<MemoryListener, Book>(w, &mut self.book);
+        self.log.before("retire ", w as u64);
+        self.log.answer(last);
+    }
+
     // Writes down whether each of so many connections of each listener came back once.
     fn show_once(&mut self, links: u64) {
         match is_each_once(self.alloc, self.book.entries(), self.listeners.len(), links) {
@@ -204,6 +233,9 @@ impl Stage {
             Act::Rounds => self.turn_out(task),
             Act::Place => self.place(),
             Act::Worker(w, deed) => self.staff.act(w, deed, &mut self.log),
+            Act::Leave(w) => self.leave(w),
+            Act::Replace(w) => self.replace(w),
+            Act::Retire(w) => self.retire(w),
             Act::Entries => self.log.entries(self.book.entries()),
             Act::Once(links) => self.show_once(links),
         }

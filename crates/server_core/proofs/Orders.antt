@@ -55,7 +55,7 @@ at_place order w e =
     let passes = passes_at_first (λ x. x == w) order w (has_place order w e) in
     grind (arith, nat_tests)
 
-permuted : (order : List ℕ) (w : ℕ) → in_order order w ≡ true → IsPermutation order (w ∷ without order w)
+pub permuted : (order : List ℕ) (w : ℕ) → in_order order w ≡ true → IsPermutation order (w ∷ without order w)
 permuted order w e = IsPermutation-swap_remove order (place_of order w) w (has_place order w e) (at_place order w e)
 
 -- w, as it was taken from its place
@@ -66,7 +66,7 @@ removed order w r k e place value =
     let same : r ≡ w = value ∙ ap (λ i. get_or order i r) place ∙ there in
     rw (place, same) refl
 
-in_order-without : (order : List ℕ) (w v : ℕ) → in_order order w ≡ true → in_order order v ≡ ((w == v) || in_order (without order w) v)
+pub in_order-without : (order : List ℕ) (w v : ℕ) → in_order order w ≡ true → in_order order v ≡ ((w == v) || in_order (without order w) v)
 in_order-without order w v e = list_any-IsPermutation (λ x. x == v) _ _ (permuted order w e)
 
 pub distinct_without : (order : List ℕ) (w : ℕ) → in_order order w ≡ true → IsDistinct nat_eq order → IsDistinct nat_eq (without order w)
@@ -100,7 +100,7 @@ lies-insert free order w e lies = λ v i.
     ] refl
 
 -- ---- one more at the end
-in_order-push : (order : List ℕ) (w v : ℕ) → in_order (order ++ w ∷ []) v ≡ (in_order order v || ((w == v) || false))
+pub in_order-push : (order : List ℕ) (w v : ℕ) → in_order (order ++ w ∷ []) v ≡ (in_order order v || ((w == v) || false))
 in_order-push order w v = list_any-append (λ x. x == v) order (w ∷ [])
 
 pub lies-push : (free : Numbers) (order : List ℕ) (w : ℕ) → LiesIn free order → LiesIn (set.insert free w) (order ++ w ∷ [])

@@ -282,7 +282,7 @@ impl AcceptCore {
 
 impl AcceptCore {
     ghost use Rattle.std.specs.Prelude.{IfSome};
-    ghost use Rattle.server_core.specs.Core.{IsKept, allowed, picked, step};
+    ghost use Rattle.server_core.specs.Core.{IsKept, all_retired, allowed, picked, step};
 
     /// A core over `workers` workers, which are all in order and free, and `listeners` listeners.
     pub fn new(workers: usize, listeners: usize) -> Self
@@ -387,6 +387,13 @@ impl AcceptCore {
         ensures { result ≡ is_some self.now.waiting }
     {
         self.waiting.is_some()
+    }
+
+    /// Whether every worker is retired.
+    pub fn all_retired(&self) -> bool
+        ensures { result ≡ all_retired self.now }
+    {
+        none_left(&self.retired, self.out.len())
     }
 
     /// How many connections the worker `w` has.

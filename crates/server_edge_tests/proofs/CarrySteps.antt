@@ -1,6 +1,5 @@
 -- One trip behind another.
-use Rattle.std.proofs.Common.{◌≡◌, ℕ, ◌+◌, [], refl, ◌∙◌, ap, arith, sum_by}
-use Rattle.rtrb.specs.Ring.{received, sent}
+use Rattle.std.proofs.Common.{◌≡◌, [], refl, ◌∙◌, ap, arith, sum_by}
 use Rattle.rtrb.specs.declared.AnyItems.{AnyItems}
 use Rattle.rtrb.specs.declared.consumer.Consumer.{Consumer}
 use Rattle.rtrb.specs.declared.producer.Producer.{Producer}

@@ -1,6 +1,5 @@
 -- A line that is kept has the same rings and the same job.
-use Rattle.std.proofs.Common.{◌≡◌, refl, ◌∙◌, sym, ap, subst}
-use Rattle.rtrb.specs.Ring.{SameConsumer, SameProducer}
+use Rattle.std.proofs.Common.{refl, ◌∙◌, sym, subst}
 use Rattle.service_core.specs.Link.{Identity}
 use Rattle.server_edge_tests.specs.Lines.{KeepsLine}
 use Rattle.server_jobs.specs.Jobs.{job_of}
@@ -30,8 +29,7 @@ kept_line {L} {F} {D} {J} {O} identity promise handed a b k line = record {
   outward = line.outward;
   to_it = (line.to_it.0 ∙ sym k.to_it.0.0, line.to_it.1 ∙ sym k.to_it.0.1, line.to_it.2 ∙ sym k.to_it.0.2, line.to_it.3 ∙ sym k.to_it.0.3);
   from_it = (k.from_it.0.0 ∙ line.from_it.0, k.from_it.0.1 ∙ line.from_it.1, k.from_it.0.2 ∙ line.from_it.2, k.from_it.0.3 ∙ line.from_it.3);
-  unreceived = line.unreceived;
-  unsent = line.unsent;
+  balanced = line.balanced;
   accounts = subst (λ (r : Running J O). (out : O) → promise (job_of r) out → Accounts identity line.inward line.outward (handed out))
       (sym k.running) line.accounts;
 }

@@ -1,5 +1,5 @@
 -- What is known of the connections of a worker's job once its thread is joined.
-use Rattle.std.specs.Prelude.{◌≡◌, ◌+◌, ℕ, [], sum_by}
+use Rattle.std.specs.Prelude.{◌≡◌, ◌+◌, ℕ, sum_by}
 use Rattle.rtrb.specs.Ring.{received, sent, known_items, ConsumerLooked, IsPair, ProducerLooked, SameConsumer, SameProducer}
 use Rattle.rtrb.specs.declared.AnyItems.{AnyItems}
 use Rattle.rtrb.specs.declared.consumer.Consumer.{Consumer}
@@ -25,14 +25,17 @@ module _ {L : Type 0} (identity : L → Identity) where
         ≡ (sum_by (of_parcel identity h) (received inward) + sum_by (of_note identity h) (sent out.notes))
         + (sum_by (of_note identity h) out.owed.items + sum_by (of_waiting identity h) out.rest.items)
 
-  -- The job has the other ends of the line's rings, on which nothing had gone when it began, and accounts for them by its promise.
+  -- Each connection that was received from the one ring was sent back on the other, once.
+  abbrev pub IsBalanced : Consumer (Parcel L) Global AnyItems → Producer (Note L) Global AnyItems → Type 0
+  IsBalanced inward outward = (h : Card → ℕ) → sum_by (of_parcel identity h) (received inward) ≡ sum_by (of_note identity h) (sent outward)
+
+  -- The job has the other ends of the line's rings, accounts for them by its promise, and began where each connection that had come was sent back.
   pub record IsLine {F D J O : Type 0} (promise : J → O → Type 0) (handed : O → Handed L F D) (line : Line L J O) : Type 0 where
     pub inward : Consumer (Parcel L) Global AnyItems
     pub outward : Producer (Note L) Global AnyItems
     pub to_it : IsPair line.parcels inward
     pub from_it : IsPair outward line.notes
-    pub unreceived : received inward ≡ []
-    pub unsent : sent outward ≡ []
+    pub balanced : IsBalanced inward outward
     pub accounts : (out : O) → promise (job_of line.running) out → Accounts inward outward (handed out)
 
   -- What was put on the ring to the job is what came back, what is on its way back, what is owed or handed over, and what is left in

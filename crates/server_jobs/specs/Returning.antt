@@ -5,7 +5,7 @@ use Rattle.std.specs.Option.{option_map_or}
 use Rattle.rtrb.specs.Ring.{known_items}
 use Rattle.server_run.specs.Done.{Adds}
 use Rattle.server_run.specs.declared.entry.Entry.{Entry}
-use Rattle.server_run.specs.declared.outcome.Outcome.TheVariants.{Stopped}
+use Rattle.server_run.specs.declared.outcome.Outcome.TheVariants.{Lost, Stopped}
 use Rattle.server_jobs.specs.declared.line.Joined.{Joined}
 use Rattle.server_jobs.specs.declared.note.Note.{Note}
 use Rattle.server_jobs.specs.declared.note.Note.TheVariants.{Ready, Back, Faulted}
@@ -24,9 +24,9 @@ abbrev pub entry_of_parcel : {L : Type 0} → Parcel L → Option (Entry L)
 entry_of_parcel (Conn serial token place link) = Some (record { serial = serial; token = token; place = place; link = link; outcome = Stopped false })
 entry_of_parcel (Stop graceful) = None
 
--- one that has not ended is stopped as it stands
-abbrev pub entry_of_waiting : {L : Type 0} → Waiting L → Option (Entry L)
-entry_of_waiting w = Some (record { serial = w.serial; token = w.token; place = w.place; link = w.link; outcome = Stopped true })
+-- one that has not ended is lost by the worker that had it, as it stands
+abbrev pub entry_of_waiting : {L : Type 0} → ℕ → Waiting L → Option (Entry L)
+entry_of_waiting worker w = Some (record { serial = w.serial; token = w.token; place = w.place; link = w.link; outcome = Lost (Some worker) })
 
 abbrev pub one_or_none : {L : Type 0} → Option (Entry L) → List (Entry L)
 one_or_none entry = option_map_or (λ e. e ∷ []) entry []
@@ -35,11 +35,11 @@ one_or_none entry = option_map_or (λ e. e ∷ []) entry []
 abbrev pub entries_of : {X L : Type 0} → (X → Option (Entry L)) → List X → List (Entry L)
 entries_of entry_of xs = flat_map (λ x. one_or_none (entry_of x)) xs
 
--- What is brought back by a join: what is on its way back, what is owed, what has not ended, and what is left in the ring to the worker.
-abbrev pub brought_back : {L F D : Type 0} → Joined L F D → List (Entry L)
-brought_back j =
+-- What is brought back by the join of a worker: what is on its way back, what is owed, what has not ended, and what is left in the ring to the worker.
+abbrev pub brought_back : {L F D : Type 0} → ℕ → Joined L F D → List (Entry L)
+brought_back worker j =
     entries_of entry_of_note (known_items j.notes) ++ (entries_of entry_of_note j.handed.owed.items
-    ++ (entries_of entry_of_waiting j.handed.rest.items ++ entries_of entry_of_parcel (known_items j.handed.parcels)))
+    ++ (entries_of (entry_of_waiting worker) j.handed.rest.items ++ entries_of entry_of_parcel (known_items j.handed.parcels)))
 
 -- these entries were added to `done`, for which there was room
 pub record HandsOn {L T : Type 0} (taken : T → Option (List (Entry L))) (count served spare : T → ℕ) (old new : T) (entries : List (Entry L)) : Type 0 where

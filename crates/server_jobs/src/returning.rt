@@ -48,10 +48,10 @@ fn hand_on_parcel<L: Drop, Do: Done<L>>(parcel: Parcel<L>, done: &mut Do)
     }
 }
 
-// Hands on a connection that has not ended.
-fn hand_on_waiting<L: Drop, Do: Done<L>>(waiting: Waiting<L>, done: &mut Do)
-    requires { length (one_or_none (entry_of_waiting waiting)) ≤ Do.spare done.old }
-    ensures { HandsOn Do.taken Do.count Do.served Do.spare done.old done.new (one_or_none (entry_of_waiting waiting)) }
+// Hands on a connection that has not ended, as one that its worker lost.
+fn hand_on_waiting<L: Drop, Do: Done<L>>(waiting: Waiting<L>, worker: usize, done: &mut Do)
+    requires { length (one_or_none (entry_of_waiting worker waiting)) ≤ Do.spare done.old }
+    ensures { HandsOn Do.taken Do.count Do.served Do.spare done.old done.new (one_or_none (entry_of_waiting worker waiting)) }
 {
     let Waiting {
         serial,
@@ -64,7 +64,9 @@ fn hand_on_waiting<L: Drop, Do: Done<L>>(waiting: Waiting<L>, done: &mut Do)
         token,
         place,
         link,
-        outcome: Outcome::Stopped { forced: true },
+        outcome: Outcome::Lost {
+            worker: Some(worker),
+        },
     });
 }
 
@@ -101,16 +103,17 @@ fn hand_on_first_owed<L: Drop, Do: Done<L>>(owed: &mut VecDeque<Note<L>>, done: 
 // Hands on the first of what has not ended. False where nothing is left.
 fn hand_on_first_waiting<L: Drop, Do: Done<L>>(
     rest: &mut IntoIter<Waiting<L>>,
+    worker: usize,
     done: &mut Do,
 ) -> bool
-    requires { length (entries_of entry_of_waiting (into_iter_items rest.old)) ≤ Do.spare done.old }
-    ensures hands { HandsFrom entry_of_waiting Do.taken Do.count Do.served Do.spare (into_iter_items rest.old) (into_iter_items rest.new) done.old done.new }
+    requires { length (entries_of (entry_of_waiting worker) (into_iter_items rest.old)) ≤ Do.spare done.old }
+    ensures hands { HandsFrom (entry_of_waiting worker) Do.taken Do.count Do.served Do.spare (into_iter_items rest.old) (into_iter_items rest.new) done.old done.new }
     ensures fewer { IsTrue result → into_iter_len rest.new + 1 ≡ into_iter_len rest.old }
     ensures none { IsFalse result → into_iter_items rest.new ≡ [] }
 {
     match rest.next() {
         Some(waiting) => {
-            hand_on_waiting(waiting, done);
+            hand_on_waiting(waiting, worker, done);
             true
         }
         None => false,
@@ -154,11 +157,11 @@ fn hand_on_owed<L: Drop, Do: Done<L>>(owed: &mut VecDeque<Note<L>>, done: &mut D
 
 #[tactic(auto, using(crate::proofs::ReturnSteps::from_none, crate::proofs::ReturnSteps::from_trans, crate::proofs::ReturnSteps::room_left, crate::proofs::ReturnSteps::from_all))]
 // Hands on what has not ended.
-fn hand_on_rest<L: Drop, Do: Done<L>>(rest: &mut IntoIter<Waiting<L>>, done: &mut Do)
-    requires { length (entries_of entry_of_waiting (into_iter_items rest.old)) ≤ Do.spare done.old }
-    ensures { HandsOn Do.taken Do.count Do.served Do.spare done.old done.new (entries_of entry_of_waiting (into_iter_items rest.old)) }
+fn hand_on_rest<L: Drop, Do: Done<L>>(rest: &mut IntoIter<Waiting<L>>, worker: usize, done: &mut Do)
+    requires { length (entries_of (entry_of_waiting worker) (into_iter_items rest.old)) ≤ Do.spare done.old }
+    ensures { HandsOn Do.taken Do.count Do.served Do.spare done.old done.new (entries_of (entry_of_waiting worker) (into_iter_items rest.old)) }
 {
-    while hand_on_first_waiting(rest, done) {}
+    while hand_on_first_waiting(rest, worker, done) {}
 }
 
 #[tactic(auto, using(crate::proofs::ReturnSteps::from_none, crate::proofs::ReturnSteps::from_trans, crate::proofs::ReturnSteps::room_left, crate::proofs::ReturnSteps::from_all))]
@@ -172,10 +175,11 @@ fn hand_on_parcels<L: Drop, Do: Done<L>>(parcels: &mut Consumer<Parcel<L>>, done
 
 impl<L: Drop, F: Drop, D> Joined<L, F, D> {
     /// Hands on each connection of the worker that comes back at its join alone: those on their way back and those that it owed, as
-    /// they ended; those that it held, and those that no service got, as stopped. Returns why the worker left.
-    pub fn hand_on<Do: Done<L>>(self, done: &mut Do) -> D
-        requires { length (brought_back self) ≤ Do.spare done.old }
-        ensures hands { HandsOn Do.taken Do.count Do.served Do.spare done.old done.new (brought_back self) }
+    /// they ended; those that it held, as lost by this worker, whose number it is given; and those that are left in its ring as stopped
+    /// before a service got them. Returns why the worker left.
+    pub fn hand_on<Do: Done<L>>(self, worker: usize, done: &mut Do) -> D
+        requires { length (brought_back worker self) ≤ Do.spare done.old }
+        ensures hands { HandsOn Do.taken Do.count Do.served Do.spare done.old done.new (brought_back worker self) }
         ensures departure { result ≡ self.handed.departure }
     {
         let Joined {
@@ -194,7 +198,7 @@ impl<L: Drop, F: Drop, D> Joined<L, F, D> {
         hand_on_notes(&mut notes, done);
         hand_on_owed(&mut owed, done);
         let mut rest = rest.into_iter();
-        hand_on_rest(&mut rest, done);
+        hand_on_rest(&mut rest, worker, done);
         hand_on_parcels(&mut parcels, done);
         departure
     }

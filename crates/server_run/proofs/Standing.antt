@@ -1,5 +1,5 @@
 -- What a service of a token is known to do with a link.
-use Rattle.std.proofs.Common.{◌≡◌, ap, inl, inr, true, false}
+use Rattle.std.proofs.Common.{◌≡◌, ap, inl, inr, true, false, Some, None}
 use Rattle.service_core.specs.Link.{Identity}
 use Rattle.service_core.specs.Making.{LiesWithin}
 use Rattle.service_core.specs.Meaning.{Readiness}
@@ -35,6 +35,9 @@ same_link identity may_serve may_leave link back outcome.Served served left (inr
 same_link identity may_serve may_leave link back outcome.ReadFault served left (inr held) = absurd held
 same_link identity may_serve may_leave link back outcome.WriteFault served left (inr held) = absurd held
 same_link identity may_serve may_leave link back outcome.Upgraded served left (inr held) = absurd held
+same_link identity may_serve may_leave link back (outcome.Lost None) served left (inr held) = ap identity held
+same_link identity may_serve may_leave link back (outcome.Lost (Some worker)) served left (inr (inl held)) = ap identity held
+same_link identity may_serve may_leave link back (outcome.Lost (Some worker)) served left (inr (inr held)) = left back held
 same_link identity may_serve may_leave link back (outcome.Stopped false) served left (inr held) = ap identity held
 same_link identity may_serve may_leave link back (outcome.Stopped true) served left (inr held) = left back held
 same_link identity may_serve may_leave link back outcome.Memory served left (inr held) = left back held

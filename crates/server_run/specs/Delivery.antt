@@ -1,5 +1,5 @@
 -- Each connection that the listeners gave is in one entry, with its link.
-use Rattle.std.specs.Prelude.{◌≡◌, ◌⊎◌, ◌≤◌, ℕ, true, false, ◌-◌, ◌==◌, ◌&&◌, nat_lt, if◌then◌else◌, List, length, drop, Option, Some, IfSome, slice_get, All, IsTrue, Bool}
+use Rattle.std.specs.Prelude.{◌≡◌, ◌⊎◌, ◌≤◌, ℕ, true, false, ◌-◌, ◌==◌, ◌&&◌, nat_lt, if◌then◌else◌, List, length, drop, Option, Some, None, IfSome, slice_get, All, IsTrue, Bool}
 use Rattle.std.specs.List.{count_by}
 use Rattle.std.specs.Option.{option_map, option_map_or, option_and_then}
 use Rattle.service_core.specs.Link.{Identity}
@@ -43,11 +43,13 @@ IsLeftAs may_leave link back outcome.Served = ⊥
 IsLeftAs may_leave link back outcome.ReadFault = ⊥
 IsLeftAs may_leave link back outcome.WriteFault = ⊥
 IsLeftAs may_leave link back outcome.Upgraded = ⊥
+IsLeftAs may_leave link back (outcome.Lost (Some worker)) = (back ≡ link) ⊎ may_leave link back
+IsLeftAs may_leave link back (outcome.Lost None) = back ≡ link
 IsLeftAs may_leave link back (outcome.Stopped false) = back ≡ link
 IsLeftAs may_leave link back (outcome.Stopped true) = may_leave link back
 IsLeftAs may_leave link back outcome.Memory = may_leave link back
 
--- A link comes back as its service ended it, or, after a stop or for want of memory, as it stood then.
+-- A link comes back as its service ended it, or, after a stop, for want of memory or of a worker, as it stood then.
 abbrev pub ComesBack : {L : Type 0} → (L → Ended L → Type 0) → (L → L → Type 0) → L → L → Outcome → Type 0
 ComesBack may_serve may_leave link back end =
     ((how : How) × (end ≡ outcome_of how) × may_serve link (record { link = back; how = how }))

@@ -19,6 +19,7 @@ is_served outcome.Served = true
 is_served outcome.ReadFault = false
 is_served outcome.WriteFault = false
 is_served outcome.Upgraded = false
+is_served (outcome.Lost worker) = false
 is_served (outcome.Stopped forced) = false
 is_served outcome.Memory = false
 
@@ -28,5 +29,16 @@ is_stopped outcome.Served = false
 is_stopped outcome.ReadFault = false
 is_stopped outcome.WriteFault = false
 is_stopped outcome.Upgraded = false
+is_stopped (outcome.Lost worker) = false
 is_stopped (outcome.Stopped forced) = true
 is_stopped outcome.Memory = false
+
+-- its worker ended by a fault, or none was left
+abbrev pub is_lost : Outcome → Bool
+is_lost outcome.Served = false
+is_lost outcome.ReadFault = false
+is_lost outcome.WriteFault = false
+is_lost outcome.Upgraded = false
+is_lost (outcome.Lost worker) = true
+is_lost (outcome.Stopped forced) = false
+is_lost outcome.Memory = false

@@ -4,7 +4,7 @@ use Rattle.std.specs.Option.{option_map}
 use Rattle.service_core.specs.Counts.{Rose}
 use Rattle.server_run.specs.declared.report.Report.{Report}
 use Rattle.server_run.specs.declared.report.End.{End}
-use Rattle.server_run.specs.declared.report.End.TheVariants.{Drained, Stopped, Memory}
+use Rattle.server_run.specs.declared.report.End.TheVariants.{Drained, Stopped, NoWorkers, Memory}
 use Rattle.server_run.specs.declared.report.ListenerState.{ListenerState}
 use Rattle.server_run.specs.declared.report.ListenerState.TheVariants.{Ended, Faulted, Open}
 use Rattle.server_run.specs.Delivery.{HasEnded, given_at, rest_at}
@@ -14,6 +14,7 @@ use Rattle.server_run.specs.Listener.{Mark, in_a_row}
 abbrev pub is_stop : End → Bool
 is_stop Drained = false
 is_stop (Stopped graceful) = true
+is_stop NoWorkers = false
 is_stop Memory = false
 
 -- this listener had not ended, and has now

@@ -10,10 +10,10 @@ pub struct Entry<L> {
     pub token: usize,
     /// Its number among the connections of that listener, from 0.
     pub place: u64,
-    /// The link as its service ended it, or as the service's future handed it back, for want of memory or at a stop. Where the
-    /// server was stopped before a service began with it, the link is as it was accepted.
+    /// The link as its service ended it, or as the service's future handed it back: for want of memory, at a stop, or where its worker
+    /// ended by a fault. Where no service began with it, the link is as it was accepted.
     pub link: L,
-    /// How its service ended it, `Memory` where the service's future handed it back for want of memory, or `Stopped` where the
-    /// server was stopped before it was served to its end.
+    /// How its service ended it, `Memory` where the service's future handed it back for want of memory, `Lost` where its worker ended
+    /// by a fault, or none was left, or `Stopped` where the server was stopped before it was served to its end.
     pub outcome: Outcome,
 }

@@ -1,5 +1,5 @@
 ghost use Rattle.std.specs.Prelude.{◌≡◌};
-ghost use Rattle.server_run.specs.Outcome.{is_served, is_stopped, outcome_of};
+ghost use Rattle.server_run.specs.Outcome.{is_lost, is_served, is_stopped, outcome_of};
 
 use service_core::How;
 
@@ -14,6 +14,11 @@ pub enum Outcome {
     WriteFault,
     /// Another protocol took it over.
     Upgraded,
+    /// No worker was left that could serve it to its end.
+    Lost {
+        /// The worker that had it and ended by a fault of its services. None where the connection waited for a worker, and none was left.
+        worker: Option<usize>,
+    },
     /// The server was stopped first.
     Stopped {
         /// Whether a service had begun with it. If none had, its link is as it was accepted.
@@ -49,5 +54,12 @@ impl Outcome {
         ensures { result ≡ is_stopped self.now }
     {
         matches!(self, Outcome::Stopped { .. })
+    }
+
+    /// Whether its worker ended by a fault, or none was left.
+    pub fn is_lost(&self) -> bool
+        ensures { result ≡ is_lost self.now }
+    {
+        matches!(self, Outcome::Lost { .. })
     }
 }

@@ -8,6 +8,8 @@ pub enum End {
         /// Whether those that were served had time to end.
         graceful: bool,
     },
+    /// Each worker ended by a fault of its services, and none could be replaced. Every connection was handed on.
+    NoWorkers,
     /// Memory ran out, and nothing more was accepted.
     Memory,
 }

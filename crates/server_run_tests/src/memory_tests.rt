@@ -136,3 +136,16 @@ fn each_end_has_its_outcome(rt: HostRuntime) {
     assert!(rt; Outcome::of(How::Upgraded) == Outcome::Upgraded);
     assert!(rt; Outcome::of(How::Memory) == Outcome::Memory);
 }
+
+#[test]
+fn a_lost_connection_alone_is_lost(rt: HostRuntime) {
+    assert!(rt; Outcome::Lost { worker: Some(2) }.is_lost());
+    assert!(rt; Outcome::Lost { worker: None }.is_lost());
+    assert!(rt; !Outcome::Served.is_lost());
+    assert!(rt; !Outcome::ReadFault.is_lost());
+    assert!(rt; !Outcome::WriteFault.is_lost());
+    assert!(rt; !Outcome::Upgraded.is_lost());
+    assert!(rt; !Outcome::Stopped { forced: false }.is_lost());
+    assert!(rt; !Outcome::Stopped { forced: true }.is_lost());
+    assert!(rt; !Outcome::Memory.is_lost());
+}

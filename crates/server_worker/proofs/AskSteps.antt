@@ -1,5 +1,5 @@
 -- The services were checked, one by one.
-use Rattle.std.proofs.Common.{◌≡◌, ◌≢◌, Bool, true, false, ◌<◌, ◌≤◌, ◌⊎◌, ℕ, zero, suc, ◌+◌, ◌++◌, ◌∷◌, [], List, Option, Some, IfSome, length, slice_get, refl, sym, ◌∙◌, ap, arith, append_assoc, subst, inl, inr}
+use Rattle.std.proofs.Common.{◌≡◌, ◌≢◌, Bool, true, false, ◌<◌, ◌≤◌, ◌⊎◌, ℕ, zero, suc, ◌+◌, ◌++◌, ◌∷◌, [], List, Some, IfSome, length, slice_get, refl, sym, ◌∙◌, ap, arith, append_assoc, subst, inl, inr}
 use Rattle.std.specs.Prelude.{◌&&◌, cond, not}
 use Rattle.std.proofs.lemmas.Bool.{cases_eq}
 use Rattle.std.proofs.lemmas.List.{append-nil, length_push}
@@ -11,7 +11,7 @@ use Rattle.worker_core.specs.Statuses.{is_asked}
 use Rattle.worker_core.specs.WorkerRuns.{AllAllowed, WorkerCall, after_call, after_calls}
 use Rattle.worker_core.specs.declared.ready_answer.ReadyAnswer.{ReadyAnswer}
 use Rattle.worker_core.specs.declared.ready_answer.ReadyAnswer.TheVariants as answer
-use Rattle.worker_core.specs.declared.service_status.ServiceStatus.TheVariants.{Available, Failed, Restarting, Unavailable}
+use Rattle.worker_core.specs.declared.service_status.ServiceStatus.TheVariants.{Available, Failed, Unavailable}
 use Rattle.server_worker.specs.Asking.{Check, ChecksUpTo, HasMoved, IsAccounted, MayAnswer, MayCheck, WasAsked, asked, calls_from, calls_of, passed, remade}
 use Rattle.server_worker.specs.Checking.{Checks}
 use Rattle.server_worker.specs.Standing.{AllMade, HasErred, IsMade, making_waits}

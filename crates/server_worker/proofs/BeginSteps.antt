@@ -1,5 +1,5 @@
 -- The making of the first services was begun.
-use Rattle.std.proofs.Common.{◌≡◌, ◌<◌, zero, suc, ℕ, ◌++◌, ◌∷◌, [], List, length, replicate, get_or, IfSome, slice_get, refl, true, false, true≢false, Result, Ok, Err, sym, ◌∙◌, ap, arith, subst}
+use Rattle.std.proofs.Common.{◌≡◌, zero, suc, ℕ, ◌++◌, ◌∷◌, [], List, length, replicate, get_or, IfSome, slice_get, refl, true, false, true≢false, Result, Ok, Err, sym, ◌∙◌, arith, subst}
 use Rattle.service_core.specs.Making.{Makes}
 use Rattle.service_core.specs.Meaning.{Readiness}
 use Rattle.service_core.specs.declared.ended.Ended.{Ended}

@@ -4,7 +4,6 @@ use Rattle.std.proofs.lemmas.Bool.{cases_eq}
 use Rattle.worker_core.specs.Statuses.{is_asked}
 use Rattle.worker_core.specs.WorkerCore.{Worker, after_ready, after_restarted, status_of}
 use Rattle.worker_core.specs.WorkerRuns.{AllAllowed, WorkerCall}
-use Rattle.worker_core.specs.declared.ready_answer.ReadyAnswer.{ReadyAnswer}
 use Rattle.worker_core.specs.declared.service_status.ServiceStatus.TheVariants.{Failed, Restarting, Unavailable}
 use Rattle.server_worker.specs.Asking.{Check, asked, calls_from, passed, remade}
 use Rattle.server_worker.specs.Changes.{ChangesAtMost}

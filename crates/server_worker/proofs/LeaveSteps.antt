@@ -7,10 +7,10 @@ use Rattle.std.proofs.lemmas.List.Folds.{list_any-append}
 use Rattle.std.proofs.lemmas.List.Sums.{sum_by_push, sum_by-append}
 use Rattle.std.proofs.lemmas.List.Elements.{All-append, All-head, All-push}
 use Rattle.futures.specs.declared.future.Future.{Ghosts as FutureOf}
-use Rattle.rtrb.specs.Ring.{received, sent}
+use Rattle.rtrb.specs.Ring.{received}
 use Rattle.service_core.specs.Link.{Identity}
 use Rattle.service_core.specs.declared.ended.Ended.{Ended}
-use Rattle.server_jobs.specs.Cards.{Card, of_parcel, of_waiting}
+use Rattle.server_jobs.specs.Cards.{Card, of_waiting}
 use Rattle.server_jobs.specs.declared.handed.Handed.{Handed}
 use Rattle.server_jobs.specs.declared.parcel.Parcel.{Parcel}
 use Rattle.server_jobs.specs.declared.parcel.Parcel.TheVariants.{Conn}

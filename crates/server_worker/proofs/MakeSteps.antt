@@ -1,5 +1,5 @@
 -- The making of one service more was polled.
-use Rattle.std.proofs.Common.{◌≡◌, ◌≢◌, ◌<◌, ◌≤◌, ℕ, ◌+◌, List, length, set, IfSome, slice_get, get_or, Some, true, false, true≢false, subst, ap, refl, sym, ◌∙◌, arith, inl, inr}
+use Rattle.std.proofs.Common.{◌≡◌, ◌≢◌, ◌<◌, ◌≤◌, ℕ, ◌+◌, List, length, set, IfSome, slice_get, get_or, Some, true, subst, ap, refl, sym, ◌∙◌, arith, inl, inr}
 use Rattle.std.proofs.Math.ListN.{length-set}
 use Rattle.std.proofs.lemmas.Bool.{cases_eq}
 use Rattle.std.proofs.lemmas.Option.{slice_get_read}
@@ -7,8 +7,6 @@ use Rattle.server_worker.proofs.Lists.{slice_get-set_same, slice_get-set_other}
 use Rattle.server_worker.specs.Standing.{AtSlot, HasErred, IsMade, MadeOrWaits, fits, fits_at}
 use Rattle.service_core.specs.declared.watched.Watched.{Watched}
 use Rattle.worker_core.specs.declared.service_status.ServiceStatus.{ServiceStatus}
-use Rattle.worker_core.specs.declared.service_status.ServiceStatus.TheVariants.{Available, Unavailable, Restarting, Stopping, Stopped}
-use Rattle.worker_core.specs.declared.service_status.ServiceStatus.TheVariants as status
 use Rattle.server_worker.specs.declared.slot.Slot.{Slot}
 use Rattle.server_worker.specs.declared.slot.Slot.TheVariants.{Making, Made, Failed, Remaking, Gone}
 

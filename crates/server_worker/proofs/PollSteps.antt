@@ -12,7 +12,7 @@ use Rattle.service_core.specs.Link.{Identity}
 use Rattle.service_core.specs.Shown.{wait_count}
 use Rattle.service_core.specs.declared.ended.Ended.{Ended}
 use Rattle.server_run.specs.Delivery.{ComesBack}
-use Rattle.server_run.specs.Outcome.{is_stopped}
+use Rattle.server_run.specs.Outcome.{is_lost, is_stopped}
 use Rattle.server_jobs.specs.Cards.{Card, of_note}
 use Rattle.server_worker.specs.Ending.{EndsAt, IsSameConnection, entry_of}
 use Rattle.server_worker.specs.Polled.{PolledFrom, as_it_is, once_polled, card_of}
@@ -98,9 +98,9 @@ module _ {L E Fut : Type 0} (g : FutureOf Fut (Result (Ended L) E)) (may_stand :
   pub polled_ended : (m b : Connections L Fut) (f : Finished L)
       → m.live.items ≡ set a.live.items at d → m.owed ≡ a.owed → m.parcels ≡ a.parcels → m.notes ≡ a.notes → m.queue ≡ a.queue → m.strays ≡ a.strays → m.stopped ≡ a.stopped → m.forced ≡ a.forced → m.told ≡ a.told
       → EndsAt m b at d f
-      → ComesBack (may_serve c.token) (may_leave c.token) c.given.value f.link f.outcome → is_stopped f.outcome ≡ false → identity f.link ≡ identity c.given.value
+      → ComesBack (may_serve c.token) (may_leave c.token) c.given.value f.link f.outcome → is_stopped f.outcome ≡ false → is_lost f.outcome ≡ false → identity f.link ≡ identity c.given.value
       → PolledFrom g may_stand may_serve may_leave may_make listeners identity first b at
-  polled_ended m b f live owed parcels notes queue strays stopped forced told ends back ended is = record {
+  polled_ended m b f live owed parcels notes queue strays stopped forced told ends back ended unlost is = record {
     sound = record {
       queue = rw (ends.parcels, ends.queue, parcels, queue) so_far.sound.queue;
       strays = rw (ends.parcels, ends.strays, parcels, strays) so_far.sound.strays;
@@ -131,4 +131,4 @@ module _ {L E Fut : Type 0} (g : FutureOf Fut (Result (Ended L) E)) (may_stand :
       items = ends.live ∙ ap (λ xs. swap_remove xs at d) live ∙ removed_set a.live.items at c d inside
 
       answer : Answers may_serve may_leave (received a.parcels) (entry_of d f)
-      answer = record { link = d.given.value; came = came_same; comes_back = rw (same.token, same.given) back; stop = λ is. absurd (true≢false (sym is ∙ ended)); force = λ is. absurd (true≢false (sym (forced_stopped f.outcome is) ∙ ended)) }
+      answer = record { link = d.given.value; came = came_same; comes_back = rw (same.token, same.given) back; unlost = unlost; stop = λ is. absurd (true≢false (sym is ∙ ended)); force = λ is. absurd (true≢false (sym (forced_stopped f.outcome is) ∙ ended)) }

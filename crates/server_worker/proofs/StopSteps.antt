@@ -164,7 +164,7 @@ module _ {L E Fut : Type 0} (g : FutureOf Fut (Result (Ended L) E)) (may_stand :
     (sound : IsSound g may_stand may_serve may_leave may_make listeners a) where
   -- one that waits is as it came
   returned_told : Waits (received a.parcels) w → Answers may_serve may_leave (received a.parcels) (stopped_entry w false)
-  returned_told came = record { link = w.link; came = came; comes_back = inr refl; stop = λ so. sound.stop is; force = λ so. absurd (true≢false (sym so)) }
+  returned_told came = record { link = w.link; came = came; comes_back = inr refl; unlost = refl; stop = λ so. sound.stop is; force = λ so. absurd (true≢false (sym so)) }
 
   module _ (owed : b.owed.items ≡ a.owed.items ++ Back (stopped_entry w false) ∷ []) (live : b.live ≡ a.live) where
     -- the first of the queue went to what is owed
@@ -214,6 +214,7 @@ module _ {L E Fut : Type 0} (g : FutureOf Fut (Result (Ended L) E)) (may_stand :
         link = c.given.value;
         came = rw (serial, token, place) came;
         comes_back = inr (rw token leaves);
+        unlost = refl;
         stop = λ so. sound.stop is;
         force = λ so. sound.force by_force;
       }

@@ -11,6 +11,7 @@ forced_stopped outcome.Served is = is
 forced_stopped outcome.ReadFault is = is
 forced_stopped outcome.WriteFault is = is
 forced_stopped outcome.Upgraded is = is
+forced_stopped (outcome.Lost worker) is = is
 forced_stopped (outcome.Stopped forced) is = refl
 forced_stopped outcome.Memory is = is
 
@@ -20,5 +21,6 @@ ended_weighs forced n outcome.Served ended = refl
 ended_weighs forced n outcome.ReadFault ended = refl
 ended_weighs forced n outcome.WriteFault ended = refl
 ended_weighs forced n outcome.Upgraded ended = refl
+ended_weighs forced n (outcome.Lost worker) ended = refl
 ended_weighs forced n (outcome.Stopped by) ended = absurd (true≢false ended)
 ended_weighs forced n outcome.Memory ended = refl

@@ -55,7 +55,7 @@ module _ {L : Type 0} (before more after : List (Parcel L)) (is : after ≡ befo
   module _ (may_serve : ℕ → L → Ended L → Type 0) (may_leave : ℕ → L → L → Type 0) where
     pub told_onward : (may_make : ℕ → Type 0) (listeners : ℕ) (n : Note L) → IsTold may_serve may_leave may_make listeners before n → IsTold may_serve may_leave may_make listeners after n
     told_onward may_make listeners Ready told = told
-    told_onward may_make listeners (Back e) told = record { link = told.link; came = onward _ told.came; comes_back = told.comes_back; stop = λ is. any_onward is_stop (told.stop is); force = λ is. any_onward is_force (told.force is) }
+    told_onward may_make listeners (Back e) told = record { link = told.link; came = onward _ told.came; comes_back = told.comes_back; unlost = told.unlost; stop = λ is. any_onward is_stop (told.stop is); force = λ is. any_onward is_force (told.force is) }
     told_onward may_make listeners Faulted told = told
 
     lives_onward : {E Fut : Type 0} (g : FutureOf Fut (Result (Ended L) E)) (may_stand : Fut → L → Type 0) (c : Live L Fut) → Lives g may_stand may_serve may_leave before c → Lives g may_stand may_serve may_leave after c

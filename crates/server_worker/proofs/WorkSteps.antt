@@ -9,7 +9,7 @@ use Rattle.service_core.specs.declared.service.Service.{Ghosts as ServiceOf}
 use Rattle.service_core.specs.declared.service_factory.ServiceFactory.{Ghosts as FactoryOf}
 use Rattle.service_core.specs.declared.watched.Watched.{Watched}
 use Rattle.server_worker.specs.Sound.{IsSound, IsTold}
-use Rattle.server_worker.specs.Standing.{AllMade, AreFactories, AreSlots, AtSlot, IsMade, IsSlot, MadeOrWaits, StillMaking}
+use Rattle.server_worker.specs.Standing.{AllMade, AreSlots, AtSlot, IsMade, IsSlot, MadeOrWaits, StillMaking}
 use Rattle.server_worker.specs.Taken.{Takes}
 use Rattle.server_worker.specs.Turn.{Works}
 use Rattle.server_worker.specs.declared.connections.Connections.{Connections}

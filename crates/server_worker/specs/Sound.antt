@@ -1,5 +1,5 @@
 -- What is known of each connection at a worker: where it came from, and what may become of it.
-use Rattle.std.specs.Prelude.{◌≡◌, ◌<◌, ◌≤◌, ◌++◌, ⊤, ℕ, true, List, All, Contains, Result}
+use Rattle.std.specs.Prelude.{◌≡◌, ◌<◌, ◌≤◌, ◌++◌, ⊤, ℕ, true, false, List, All, Contains, Result}
 use Rattle.std.specs.List.{list_any}
 use Rattle.futures.specs.declared.future.Future.{Ghosts as FutureOf}
 use Rattle.rtrb.specs.Ring.{received, sent}
@@ -8,7 +8,7 @@ use Rattle.service_core.specs.Shown.{watched_future}
 use Rattle.service_core.specs.declared.ended.Ended.{Ended}
 use Rattle.server_run.specs.Creating.{OnlyEnds}
 use Rattle.server_run.specs.Delivery.{ComesBack}
-use Rattle.server_run.specs.Outcome.{is_stopped}
+use Rattle.server_run.specs.Outcome.{is_lost, is_stopped}
 use Rattle.server_run.specs.declared.entry.Entry.{Entry}
 use Rattle.server_jobs.specs.Parcels.{is_force, is_stop}
 use Rattle.server_worker.specs.Stops.{is_forced}
@@ -42,6 +42,8 @@ pub record Answers {L : Type 0} (may_serve : ℕ → L → Ended L → Type 0) (
   pub link : L
   pub came : Contains parcels (Conn e.serial e.token e.place link)
   pub comes_back : ComesBack (may_serve e.token) (may_leave e.token) link e.link e.outcome
+  -- a worker tells of none that it is lost
+  pub unlost : is_lost e.outcome ≡ false
   -- it tells of a stop only where one came, and of force only where a stop came that is not graceful
   pub stop : is_stopped e.outcome ≡ true → list_any is_stop parcels ≡ true
   pub force : is_forced e.outcome ≡ true → list_any is_force parcels ≡ true

@@ -9,6 +9,7 @@ is_forced outcome.Served = false
 is_forced outcome.ReadFault = false
 is_forced outcome.WriteFault = false
 is_forced outcome.Upgraded = false
+is_forced (outcome.Lost worker) = false
 is_forced (outcome.Stopped forced) = forced
 is_forced outcome.Memory = false
 
@@ -18,6 +19,7 @@ where_stopped forced n outcome.Served = 0
 where_stopped forced n outcome.ReadFault = 0
 where_stopped forced n outcome.WriteFault = 0
 where_stopped forced n outcome.Upgraded = 0
+where_stopped forced n (outcome.Lost worker) = 0
 where_stopped true n (outcome.Stopped true) = n
 where_stopped false n (outcome.Stopped true) = 0
 where_stopped true n (outcome.Stopped false) = 0

@@ -4,7 +4,7 @@ use Rattle.rtrb.specs.Ring.{sent}
 use Rattle.server_run.specs.Outcome.{is_stopped}
 use Rattle.server_run.specs.declared.entry.Entry.{Entry}
 use Rattle.server_jobs.specs.declared.note.Note.{Note}
-use Rattle.server_jobs.specs.declared.note.Note.TheVariants.{Ready, Back, Faulted}
+use Rattle.server_jobs.specs.declared.note.Note.TheVariants.{Ready, Back}
 use Rattle.server_worker.specs.Standing.{AllMade}
 use Rattle.server_worker.specs.declared.connections.Connections.{Connections}
 use Rattle.server_worker.specs.declared.slot.Slot.{Slot}

@@ -4,7 +4,7 @@ ghost use Rattle.futures.specs.Task.{Keeps};
 ghost use Rattle.service_core.specs.Counts.{risen};
 ghost use Rattle.service_core.specs.Shown.{wait_count};
 ghost use Rattle.server_run.specs.Delivery.{ComesBack};
-ghost use Rattle.server_run.specs.Outcome.{is_stopped};
+ghost use Rattle.server_run.specs.Outcome.{is_lost, is_stopped};
 ghost use Rattle.server_worker.specs.Polled.{PolledFrom};
 ghost use Rattle.server_worker.specs.Sound.{IsSound, Serves};
 ghost use Rattle.server_worker.specs.Ending.{EndsAt, IsSameConnection};
@@ -35,6 +35,7 @@ where
     ensures waits { IfNone result (wait_count live.new.future ≡ risen (wait_count live.old.future)) }
     ensures back { IfSome result (λ f. ComesBack (F.may_serve factory.now live.old.token) (F.may_leave factory.now live.old.token) live.old.given.value f.link f.outcome) }
     ensures ended { IfSome result (λ f. is_stopped f.outcome ≡ false) }
+    ensures unlost { IfSome result (λ f. is_lost f.outcome ≡ false) }
     ensures identity { IfSome result (λ f. L.identity f.link ≡ L.identity live.old.given.value) }
     ensures kept { Keeps cx.old cx.new }
 {

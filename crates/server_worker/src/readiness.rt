@@ -1,7 +1,7 @@
 //! How a worker asks its services whether they are ready, and makes anew those that erred.
 ghost use Rattle.std.specs.Prelude.{◌≡◌, ◌≢◌, ◌<◌, ℕ, length, slice_get, slice_set, Err, IfNone, IfSome, IsFalse, Some};
 ghost use Rattle.futures.specs.declared.task.Poll.TheVariants.{Ready as PollReady};
-ghost use Rattle.futures.specs.Task.{IsArmed, Keeps};
+ghost use Rattle.futures.specs.Task.{Keeps};
 ghost use Rattle.worker_core.specs.Statuses.{is_asked};
 ghost use Rattle.worker_core.specs.WorkerCore.{MayAsk, MayRestart, after_ready, after_restarted, status_of};
 ghost use Rattle.worker_core.specs.declared.ready_answer.ReadyAnswer.TheVariants as answers;
@@ -10,7 +10,7 @@ ghost use Rattle.server_run.specs.Creating.{Stands};
 ghost use Rattle.server_worker.specs.Checking.{Checks, IsChecked, IsDown, IsRemaking, IsStanding};
 ghost use Rattle.server_worker.specs.Standing.{AllMade, AreFactories, AreSlots, IsMade, IsSlot, making_waits};
 ghost use Rattle.server_worker.specs.Asking.{ChecksUpTo};
-ghost use Rattle.server_worker.specs.Changes.{HasChanged};
+ghost use Rattle.server_worker.specs.Changes.{HasChanged, HasYielded};
 ghost use Rattle.server_worker.specs.declared.checked.Checked.TheVariants.{Refused, Stayed};
 ghost use Rattle.server_worker.specs.declared.slot.Slot.TheVariants.{Failed, Made};
 
@@ -303,7 +303,7 @@ where
         (F.may_serve factory.now) (F.may_leave factory.now) (F.may_ready factory.now) (F.may_init factory.now) (F.may_make factory.now) services.new.slots.items) }
     ensures all_made { AllMade services.new.slots.items }
     ensures as_many { length services.new.slots.items ≡ length services.old.slots.items }
-    ensures armed { IfNone result ((t : ℕ) → HasChanged services.old.core services.new.core t → IsArmed cx.new) }
+    ensures armed { IfNone result ((t : ℕ) → HasChanged services.old.core services.new.core t → HasYielded cx.new) }
     ensures fault { IfSome result (λ fault. (fault.token < length services.new.slots.items) × F.may_ready factory.now fault.token (PollReady (Err fault.readiness)) × F.may_init factory.now fault.token fault.error) }
     ensures made { services.new.made ≡ services.old.made }
     ensures factories { services.new.factories ≡ services.old.factories }

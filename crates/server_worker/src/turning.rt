@@ -1,13 +1,13 @@
 //! A worker's turn.
 ghost use Rattle.std.specs.Prelude.{◌≡◌, ◌≢◌, ◌↔◌, ◌<◌, ◌≤◌, ◌+◌, ◌⊎◌, ℕ, [], Bool, length, cond, vec_len, true, false, Err, IfNone, IfSome};
 ghost use Rattle.std.specs.VecDeque.{deque_len};
-ghost use Rattle.futures.specs.Task.{IsArmed, Keeps};
+ghost use Rattle.futures.specs.Task.{Keeps};
 ghost use Rattle.futures.specs.declared.task.Poll.TheVariants.{Ready as PollReady};
 ghost use Rattle.rtrb.specs.Ring.{known_free, known_items};
 ghost use Rattle.worker_core.specs.WorkerCore.{state_of};
 ghost use Rattle.worker_core.specs.declared.worker_state.WorkerState.TheVariants as state;
 ghost use Rattle.server_worker.specs.Asking.{ChecksUpTo};
-ghost use Rattle.server_worker.specs.Changes.{HasChanged};
+ghost use Rattle.server_worker.specs.Changes.{HasChanged, HasYielded};
 ghost use Rattle.server_worker.specs.Holding.{Accounts};
 ghost use Rattle.server_worker.specs.Polled.{Admits, OwesMore, PollsLive};
 ghost use Rattle.server_worker.specs.Sound.{IsSound, Tells};
@@ -76,7 +76,7 @@ impl<L: Link, F: ServerServiceFactory<L>> Worker<L, F> {
         ensures unmade { self.new.services.made ≡ false → self.new.services.slots ≡ self.old.services.slots }
         ensures checks { IfNone result (ChecksUpTo (F.may_ready self.new.factory) self.old.services.slots.items self.old.services.core self.new.services.slots.items self.new.services.core
             (cond self.new.services.made (length self.new.services.slots.items) 0)) }
-        ensures armed { IfNone result ((t : ℕ) → HasChanged self.old.services.core self.new.services.core t → IsArmed cx.new) }
+        ensures armed { IfNone result ((t : ℕ) → HasChanged self.old.services.core self.new.services.core t → HasYielded cx.new) }
         ensures fault { IfSome result (λ fault. (fault.token < length self.new.services.slots.items) × F.may_ready self.new.factory fault.token (PollReady (Err fault.readiness))
             × F.may_init self.new.factory fault.token fault.error × (self.new.services.made ≡ true)) }
         ensures kept { Keeps cx.old cx.new }
@@ -190,7 +190,7 @@ impl<L: Link, F: ServerServiceFactory<L>> Worker<L, F> {
         ensures unpolled { IsFaulted result → self.new.hand.live ≡ self.old.hand.live }
         ensures checks { (IsFaulted result → ⊥) → ChecksUpTo (F.may_ready self.new.factory) self.old.services.slots.items self.old.services.core self.new.services.slots.items self.new.services.core
             (cond self.new.services.made (length self.new.services.slots.items) 0) }
-        ensures armed { (IsFaulted result → ⊥) → (token : ℕ) → HasChanged self.old.services.core self.new.services.core token → IsArmed cx.new }
+        ensures armed { (IsFaulted result → ⊥) → (token : ℕ) → HasChanged self.old.services.core self.new.services.core token → HasYielded cx.new }
         ensures admits { IsGoing result → self.new.services.made ≡ true → state_of self.new.services.core ≡ state.Available → self.new.hand.queue.items ≡ [] }
         ensures waits { (self.new.services.made ≡ true → state_of self.new.services.core ≡ state.Available → ⊥) → self.new.hand.queue.items ≡ self.old.hand.queue.items }
         ensures going { IsGoing result → GoesOn self.old.services.slots.items self.new.services self.new.hand }
@@ -277,11 +277,11 @@ impl<L: Link, F: ServerServiceFactory<L>> Worker<L, F> {
         ensures unstopped { stopped_of self.new ≡ false → (h : Card → ℕ) → told_as L.identity false h (hand_of self.new) ≡ told_as L.identity false h (hand_of self.old) }
 
         // Once all services were made each is asked, once, or made anew where it erred, but not after a stop. Where one stands no more,
-        // or stands again, this poll has registered somewhere or has asked for another one. Where every one is available, no
-        // connection that has one stays in the queue; and else none is admitted.
+        // or stands again, this poll has asked for another one. Where every one is available, no connection that has one stays in the
+        // queue; and else none is admitted.
         ensures checks { (IsFaulted result → ⊥) → ChecksUpTo (F.may_ready (factory_of self.new)) (slots_of self.old) (core_of self.old) (slots_of self.new) (core_of self.new)
             (cond (is_asking self.new) (listeners_of self.new) 0) }
-        ensures armed { (IsFaulted result → ⊥) → (token : ℕ) → HasChanged (core_of self.old) (core_of self.new) token → IsArmed cx.new }
+        ensures armed { (IsFaulted result → ⊥) → (token : ℕ) → HasChanged (core_of self.old) (core_of self.new) token → HasYielded cx.new }
         ensures admits { IsGoing result → made_of self.new ≡ true → state_of (core_of self.new) ≡ state.Available → queue_of self.new ≡ [] }
         ensures waits { stopped_of self.new ≡ false → (made_of self.new ≡ true → state_of (core_of self.new) ≡ state.Available → ⊥) → Queues (hand_of self.old) (hand_of self.new) }
 

@@ -99,7 +99,7 @@ fn may_be(entry: &Entry<MemoryLink>) -> Result<bool, AllocError> {
         Outcome::Stopped { .. } => Ok(true),
         Outcome::Served => Ok(entry.token == 0 && !hangs_at(entry.place)),
         Outcome::Upgraded => Ok(entry.token == 1 && !hangs_at(entry.place)),
-        Outcome::ReadFault | Outcome::WriteFault => Ok(false),
+        Outcome::ReadFault | Outcome::WriteFault | Outcome::Lost { .. } => Ok(false),
     }
 }
 

@@ -1,6 +1,6 @@
 -- A worker is turned until it leaves, and its job's promise is kept.
 use Rattle.std.proofs.Common.{◌≡◌, ◌⊎◌, ◌++◌, ◌∷◌, [], ℕ, ◌+◌, Bool, true, false, true≢false, List, All, Result, length, sum_by, refl, sym, ◌∙◌, ap, append_assoc, arith, subst, inl, inr}
-use Rattle.std.specs.Prelude.{◌||◌, ◌<◌}
+use Rattle.std.specs.Prelude.{◌||◌}
 use Rattle.std.specs.List.{list_any}
 use Rattle.std.proofs.lemmas.List.{append-nil}
 use Rattle.std.proofs.lemmas.List.Sums.{sum_by-append, sum_by_push}
@@ -28,8 +28,7 @@ use Rattle.server_worker.specs.Sound.{IsSound, IsTold, Tells}
 use Rattle.server_jobs.specs.Parcels.{is_stop}
 use Rattle.server_worker.specs.Taken.{Receives}
 use Rattle.server_worker.specs.Telling.{TellsReady, newly, noted}
-use Rattle.server_worker.specs.Turn.{Works}
-use Rattle.server_worker.specs.Workers.{factory_of, hand_of, held_by, listeners_of, services_of, stopped_of}
+use Rattle.server_worker.specs.Workers.{factory_of, hand_of, held_by, listeners_of, stopped_of}
 use Rattle.server_worker.specs.declared.connections.Connections.{Connections}
 use Rattle.server_worker.specs.declared.slot.Slot.{Slot}
 use Rattle.server_worker.specs.declared.worker.Worker.{Worker}

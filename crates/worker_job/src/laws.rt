@@ -1,8 +1,7 @@
 //! What follows from the promise of a worker's job.
-ghost use Rattle.std.specs.Prelude.{◌≡◌, []};
-ghost use Rattle.rtrb.specs.Ring.{IsPair, received, sent};
+ghost use Rattle.rtrb.specs.Ring.{IsPair};
 ghost use Rattle.server_jobs.specs.Jobs.{job_of};
-ghost use Rattle.server_jobs.specs.Joins.{Accounts, IsLine};
+ghost use Rattle.server_jobs.specs.Joins.{Accounts, IsBalanced, IsLine};
 ghost use Rattle.server_jobs.specs.declared.handed.Handed.{Handed};
 ghost use Rattle.server_jobs.specs.declared.line.Line.{Line};
 ghost use Rattle.worker_job.specs.Jobs.{notes_of, parcels_of};
@@ -25,7 +24,8 @@ where
         → HandsOver L.identity F.may_serve F.may_leave F.may_ready F.may_init F.may_make job out → Accounts L.identity (parcels_of job) (notes_of job) out }
 {}
 
-/// So a worker's job that runs over the other ends of a line's rings, on which nothing had gone, can be joined.
+/// So a worker's job that runs over the other ends of a line's rings, on which each connection that had come was sent back, can be
+/// joined.
 pub fn a_line_to_a_worker_can_be_joined<L, F>()
 where
     L: Link + Send,
@@ -33,6 +33,6 @@ where
         + Send,
     ensures { (line : Line L (WorkerJob L F) (Handed L F (Departure F.Factory.Error F.Factory.InitError)))
         → IsPair line.parcels (parcels_of (job_of line.running)) → IsPair (notes_of (job_of line.running)) line.notes
-        → received (parcels_of (job_of line.running)) ≡ [] → sent (notes_of (job_of line.running)) ≡ []
+        → IsBalanced L.identity (parcels_of (job_of line.running)) (notes_of (job_of line.running))
         → IsLine L.identity ⟦<WorkerJob<L, F> as Job>⟧.promise ⟦<Handed<L, F, Departure<<F::Factory as ServiceFactory<L>>::Error, <F::Factory as ServiceFactory<L>>::InitError>> as Handover<L>>⟧.handed line }
 {}

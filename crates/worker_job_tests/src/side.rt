@@ -1,7 +1,7 @@
 //! The side of who starts the job of a worker.
-ghost use Rattle.std.specs.Prelude.{◌≡◌, []};
-ghost use Rattle.rtrb.specs.Ring.{IsPair, received, sent};
+ghost use Rattle.rtrb.specs.Ring.{IsPair};
 ghost use Rattle.server_jobs.specs.Jobs.{job_of};
+ghost use Rattle.server_jobs.specs.Joins.{IsBalanced};
 
 use crate::books::Books;
 use crate::ending::Ending;
@@ -13,6 +13,7 @@ use rtrb::{Consumer, Producer, RingBuffer};
 use server_edge::ThreadSpawner;
 use server_jobs::{Line, Note, Parcel, Running, Spawner};
 use server_run::Host;
+use service_core::Link;
 use std::alloc::{AllocError, Global};
 use std::thread::Threads;
 
@@ -24,8 +25,7 @@ pub(crate) struct Side {
     pub(crate) books: Books,
     ghost to_it: { IsPair parcels (job_of running).parcels },
     ghost from_it: { IsPair (job_of running).notes notes },
-    ghost unreceived: { received (job_of running).parcels ≡ [] },
-    ghost unsent: { sent (job_of running).notes ≡ [] },
+    ghost balanced: { IsBalanced ⟦<Tag as Link>⟧.identity (job_of running).parcels (job_of running).notes },
 }
 
 /// A job that was started in a thread, over rings of eight places. So many connections are to go to it.

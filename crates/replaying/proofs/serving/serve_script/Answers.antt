@@ -16,13 +16,14 @@ use denote.Exit.{no}
 use denote.Param.Send.{arg_send, param_send}
 use Rattle.server_run.specs.contracts.memory_link.MemoryLinkLink.TheImpl.{ghosts}
 use Rattle.replaying.specs.Replaying.{settings_by}
-use Rattle.replaying.proofs.Replays.{runs_by}
+use Rattle.replaying.proofs.Replays.{rose_by, runs_by}
 use Rattle.replaying.proofs.serving.serve_script.Goals as goal
 
 some_of : (n : ℕ) → not (n == 0) ≡ true → 1 ≤ n
 some_of zero listening = cc
 some_of (suc n) listening = omega arith
 
+-- no service errs, and so no worker may end by a fault
 pub returns-in-Ok : goal.returns-in-Ok
 returns-in-Ok g c =
     let run = c.in-Ok.ensures.serves.serves in
@@ -37,10 +38,11 @@ returns-in-Ok g c =
     let limit = c.args.script.settings.retry_limit_within in
     record {
       starts = ap config_error (sym cors_is) ∙ c.in-Ok.ensures.made unstopped 0 (omega (arith, some));
-      started = subst (λ n. RoseBy n (g.Sp.Spawner.starts c.args.spawner.now) (g.Sp.Spawner.starts c.serve.new.spawner)) workers c.in-Ok.ensures.started;
+      started = subst (λ n. RoseBy n (g.Sp.Spawner.starts c.args.spawner.now) (g.Sp.Spawner.starts c.serve.new.spawner)) workers (rose_by _ _ _ _ c.in-Ok.ensures.started (λ fault. (let errs = fault.errs in cc)));
       runs = runs_by ghosts (plan c.args.script) _ site_is c.serve.new.done.entries.items c.in-Ok.report c.in_ok-listeners.listeners.items c.serve.new.listeners.items _ _ retries (omega (arith, limit))
-          c.in_ok-listeners.ensures.offer c.in-Ok.ensures.same_count
-          run.entries (run.adds.list ∙ ap (λ xs. Some (xs ++ run.entries)) c.new-done.ensures) run.delivers c.in-Ok.ensures.told unstopped run.outcomes;
+          c.in_ok-listeners.ensures.offer c.in-Ok.ensures.same_count _ _
+          run.entries (run.adds.list ∙ ap (λ xs. Some (xs ++ run.entries)) c.new-done.ensures) run.delivers c.in-Ok.ensures.told unstopped run.faulted run.outcomes
+          (λ fault. (let errs = fault.errs in cc));
       refused = tt;
     }
 

@@ -1,68 +1,159 @@
-use Rattle.std.proofs.Common.{◌∙◌, refl}
-use Rattle.server.proofs.HearSteps.{hears_more, hears_none}
-use Rattle.server.proofs.TurnSteps.{accepts_more, accepts_none, can_accept_on}
+use Rattle.std.proofs.Common.{◌∙◌, ◌<◌, ◌≤◌, true≢false, refl, ap, rules, subst, sym}
+use Rattle.server.specs.Replacing.{Crew, HasFaulted, Restarts}
+use Rattle.server_run.specs.Report.{is_stop}
+use Rattle.server_run.specs.Serving.{MayFault}
+use Rattle.server.proofs.CrewSteps.{crew_turn, even_after, faulted_turn, restarts_none, restarts_same, restarts_trans}
+use Rattle.server.proofs.HearSteps.{hears_leaves, hears_more, hears_none}
+use Rattle.server.proofs.TurnSteps.{accepts_as, accepts_more, accepts_none, can_accept_leaves, can_accept_on, ends_so, not_alone}
 use Rattle.server.proofs.accepting.accept_all.Goals as goal
 
 pub loop-init : goal.loop-init
 loop-init g c = (
   accepts_none g.Li.Listener.given g.Li.Listener.left g.Li.Listener.rest g.Li.Link.Link.identity g.Li.Listener.ended g.Li.Listener.faults g.Do.Done.taken g.Do.Done.count g.Do.Done.served _ c.args.acceptor.now c.args.done.now (g.met.Do.Done.small c.args.done.now),
   c.requires.can,
-  refl,
+  restarts_none _ _,
   hears_none g.Co.Commands.given g.Co.Commands.stops g.Co.Commands.ended _ c.args.acceptor.now _ c.requires.fresh,
+  c.requires.crew,
+  refl,
 )
 
 pub loop-preserved-in-Going : goal.loop-preserved-in-Going
 loop-preserved-in-Going g c = (
-  accepts_more g.Li.Listener.given g.Li.Listener.left g.Li.Listener.rest g.Li.Link.Link.identity g.Li.Listener.ended g.Li.Listener.faults g.Do.Done.taken g.Do.Done.count g.Do.Done.served _ _ _ c.args.acceptor.now c.loop.acceptor c.turn-turned.new.self _ _ _ _ c.loop.invariant.0 c.turn-turned.ensures.does,
-  can_accept_on g.Li.Listener.given g.Li.Listener.left g.Li.Listener.rest g.Li.Link.Link.identity g.Li.Listener.ended g.Li.Listener.faults g.Do.Done.taken g.Do.Done.count g.Do.Done.served _ _ c.loop.acceptor c.turn-turned.new.self _ _ _ _ _ c.loop.invariant.1 c.turn-turned.ensures.does c.turn-turned.ensures.given c.turn-turned.ensures.spare,
-  c.rest_for.ensures ∙ c.wake.ensures ∙ c.loop.invariant.2,
-  hears_more g.Co.Commands.given g.Co.Commands.stops g.Co.Commands.idles g.Co.Commands.ended _ _ _ c.loop.acceptor c.turn-turned.new.self _ _ _ c.loop.invariant.3 c.turn-turned.ensures.takes c.turn-turned.ensures.does.logged.core c.turn-turned.ensures.onward c.turn-turned.ensures.timeout c.turn-turned.ensures.stop c.turn-turned.ensures.forces,
-)
-
-pub loop-preserved : goal.loop-preserved
-loop-preserved g c = (
-  accepts_more g.Li.Listener.given g.Li.Listener.left g.Li.Listener.rest g.Li.Link.Link.identity g.Li.Listener.ended g.Li.Listener.faults g.Do.Done.taken g.Do.Done.count g.Do.Done.served _ _ _ c.args.acceptor.now c.loop.acceptor c.turn-turned.new.self _ _ _ _ c.loop.invariant.0 c.turn-turned.ensures.does,
-  can_accept_on g.Li.Listener.given g.Li.Listener.left g.Li.Listener.rest g.Li.Link.Link.identity g.Li.Listener.ended g.Li.Listener.faults g.Do.Done.taken g.Do.Done.count g.Do.Done.served _ _ c.loop.acceptor c.turn-turned.new.self _ _ _ _ _ c.loop.invariant.1 c.turn-turned.ensures.does c.turn-turned.ensures.given c.turn-turned.ensures.spare,
-  c.rest_for-in-WorkerEnded.ensures ∙ c.wake.ensures ∙ c.loop.invariant.2,
-  hears_more g.Co.Commands.given g.Co.Commands.stops g.Co.Commands.idles g.Co.Commands.ended _ _ _ c.loop.acceptor c.turn-turned.new.self _ _ _ c.loop.invariant.3 c.turn-turned.ensures.takes c.turn-turned.ensures.does.logged.core c.turn-turned.ensures.onward c.turn-turned.ensures.timeout c.turn-turned.ensures.stop c.turn-turned.ensures.forces,
+  accepts_more g.Li.Listener.given g.Li.Listener.left g.Li.Listener.rest g.Li.Link.Link.identity g.Li.Listener.ended g.Li.Listener.faults g.Do.Done.taken g.Do.Done.count g.Do.Done.served _ _ _ c.args.acceptor.now c.loop.acceptor c.turn-turned.new.self _ _ _ _ _ c.loop.invariant.0 c.turn-turned.ensures.does.acts,
+  can_accept_on g.Li.Listener.given g.Li.Listener.left g.Li.Listener.rest g.Li.Link.Link.identity g.Li.Listener.ended g.Li.Listener.faults g.Do.Done.taken g.Do.Done.count g.Do.Done.served _ _ c.loop.acceptor c.turn-turned.new.self _ _ _ _ _ _ c.loop.invariant.1 c.turn-turned.ensures.does.acts c.turn-turned.ensures.given c.turn-turned.ensures.spare,
+  restarts_same (MayFault (g.F.ServerServiceFactory.may_ready c.args.factory.now) (g.F.ServerServiceFactory.may_init c.args.factory.now) _) _ _ _ c.loop.invariant.2 (c.rest_for.ensures ∙ c.wake.ensures),
+  hears_more g.Co.Commands.given g.Co.Commands.stops g.Co.Commands.idles g.Co.Commands.ended _ _ _ c.loop.acceptor c.turn-turned.new.self _ _ _ c.loop.invariant.3 c.turn-turned.ensures.takes c.turn-turned.ensures.does.acts.logged.core c.turn-turned.ensures.onward c.turn-turned.ensures.timeout c.turn-turned.ensures.stop c.turn-turned.ensures.forces,
+  crew_turn g.Li.Listener.given g.Li.Listener.left g.Li.Listener.rest g.Li.Link.Link.identity g.Li.Listener.ended g.Li.Listener.faults g.Do.Done.taken g.Do.Done.count g.Do.Done.served g.F.ServerServiceFactory.may_serve g.F.ServerServiceFactory.may_leave g.F.ServerServiceFactory.may_ready g.F.ServerServiceFactory.may_init g.F.ServerServiceFactory.may_make c.args.factory.now _ _ _ c.loop.acceptor c.turn-turned.new.self _ _ _ _ c.turn-turned.ensures.does (even_after g.Li.Listener.given g.Li.Listener.left g.Li.Listener.rest g.Li.Link.Link.identity g.Li.Listener.ended g.Li.Listener.faults g.Do.Done.taken g.Do.Done.count g.Do.Done.served _ _ c.args.acceptor.now c.turn-turned.new.self _ _ c.requires.carries (accepts_more g.Li.Listener.given g.Li.Listener.left g.Li.Listener.rest g.Li.Link.Link.identity g.Li.Listener.ended g.Li.Listener.faults g.Do.Done.taken g.Do.Done.count g.Do.Done.served _ _ _ c.args.acceptor.now c.loop.acceptor c.turn-turned.new.self _ _ _ _ _ c.loop.invariant.0 c.turn-turned.ensures.does.acts)) c.loop.invariant.4,
+  c.loop.invariant.5,
 )
 
 pub returns-then-not-all_ready-clause-accepts : goal.returns-then-not-all_ready-clause-accepts
 returns-then-not-all_ready-clause-accepts g c =
-    accepts_more g.Li.Listener.given g.Li.Listener.left g.Li.Listener.rest g.Li.Link.Link.identity g.Li.Listener.ended g.Li.Listener.faults g.Do.Done.taken g.Do.Done.count g.Do.Done.served _ _ _ c.args.acceptor.now c.loop.acceptor c.turn-turned.new.self _ _ _ _ c.loop.invariant.0 c.turn-turned.ensures.does
-
-pub returns-then-not-all_ready-2-clause-accepts : goal.returns-then-not-all_ready-2-clause-accepts
-returns-then-not-all_ready-2-clause-accepts g c =
-    accepts_more g.Li.Listener.given g.Li.Listener.left g.Li.Listener.rest g.Li.Link.Link.identity g.Li.Listener.ended g.Li.Listener.faults g.Do.Done.taken g.Do.Done.count g.Do.Done.served _ _ _ c.args.acceptor.now c.loop.acceptor c.turn-turned.new.self _ _ _ _ c.loop.invariant.0 c.turn-turned.ensures.does
-
-pub returns-then-accepted-eq0-clause-accepts : goal.returns-then-accepted-eq0-clause-accepts
-returns-then-accepted-eq0-clause-accepts g c =
-    accepts_more g.Li.Listener.given g.Li.Listener.left g.Li.Listener.rest g.Li.Link.Link.identity g.Li.Listener.ended g.Li.Listener.faults g.Do.Done.taken g.Do.Done.count g.Do.Done.served _ _ _ c.args.acceptor.now c.loop.acceptor c.turn-turned.new.self _ _ _ _ c.loop.invariant.0 c.turn-turned.ensures.does
-
-pub returns-in-Finished-clause-accepts : goal.returns-in-Finished-clause-accepts
-returns-in-Finished-clause-accepts g c =
-    accepts_more g.Li.Listener.given g.Li.Listener.left g.Li.Listener.rest g.Li.Link.Link.identity g.Li.Listener.ended g.Li.Listener.faults g.Do.Done.taken g.Do.Done.count g.Do.Done.served _ _ _ c.args.acceptor.now c.loop.acceptor c.turn-turned.new.self _ _ _ _ c.loop.invariant.0 c.turn-turned.ensures.does
-
-pub returns-in-Stopped-clause-accepts : goal.returns-in-Stopped-clause-accepts
-returns-in-Stopped-clause-accepts g c =
-    accepts_more g.Li.Listener.given g.Li.Listener.left g.Li.Listener.rest g.Li.Link.Link.identity g.Li.Listener.ended g.Li.Listener.faults g.Do.Done.taken g.Do.Done.count g.Do.Done.served _ _ _ c.args.acceptor.now c.loop.acceptor c.turn-turned.new.self _ _ _ _ c.loop.invariant.0 c.turn-turned.ensures.does
+    accepts_more g.Li.Listener.given g.Li.Listener.left g.Li.Listener.rest g.Li.Link.Link.identity g.Li.Listener.ended g.Li.Listener.faults g.Do.Done.taken g.Do.Done.count g.Do.Done.served _ _ _ c.args.acceptor.now c.loop.acceptor c.turn-turned.new.self _ _ _ _ _ c.loop.invariant.0 c.turn-turned.ensures.does.acts
 
 pub returns-then-not-all_ready-clause-hears : goal.returns-then-not-all_ready-clause-hears
 returns-then-not-all_ready-clause-hears g c =
-    hears_more g.Co.Commands.given g.Co.Commands.stops g.Co.Commands.idles g.Co.Commands.ended _ _ _ c.loop.acceptor c.turn-turned.new.self _ _ _ c.loop.invariant.3 c.turn-turned.ensures.takes c.turn-turned.ensures.does.logged.core c.turn-turned.ensures.onward c.turn-turned.ensures.timeout c.turn-turned.ensures.stop c.turn-turned.ensures.forces
+    hears_more g.Co.Commands.given g.Co.Commands.stops g.Co.Commands.idles g.Co.Commands.ended _ _ _ c.loop.acceptor c.turn-turned.new.self _ _ _ c.loop.invariant.3 c.turn-turned.ensures.takes c.turn-turned.ensures.does.acts.logged.core c.turn-turned.ensures.onward c.turn-turned.ensures.timeout c.turn-turned.ensures.stop c.turn-turned.ensures.forces
 
-pub returns-in-Stopped-clause-hears : goal.returns-in-Stopped-clause-hears
-returns-in-Stopped-clause-hears g c =
-    hears_more g.Co.Commands.given g.Co.Commands.stops g.Co.Commands.idles g.Co.Commands.ended _ _ _ c.loop.acceptor c.turn-turned.new.self _ _ _ c.loop.invariant.3 c.turn-turned.ensures.takes c.turn-turned.ensures.does.logged.core c.turn-turned.ensures.onward c.turn-turned.ensures.timeout c.turn-turned.ensures.stop c.turn-turned.ensures.forces
+pub returns-then-not-all_ready-clause-crew : goal.returns-then-not-all_ready-clause-crew
+returns-then-not-all_ready-clause-crew g c =
+    crew_turn g.Li.Listener.given g.Li.Listener.left g.Li.Listener.rest g.Li.Link.Link.identity g.Li.Listener.ended g.Li.Listener.faults g.Do.Done.taken g.Do.Done.count g.Do.Done.served g.F.ServerServiceFactory.may_serve g.F.ServerServiceFactory.may_leave g.F.ServerServiceFactory.may_ready g.F.ServerServiceFactory.may_init g.F.ServerServiceFactory.may_make c.args.factory.now _ _ _ c.loop.acceptor c.turn-turned.new.self _ _ _ _ c.turn-turned.ensures.does (even_after g.Li.Listener.given g.Li.Listener.left g.Li.Listener.rest g.Li.Link.Link.identity g.Li.Listener.ended g.Li.Listener.faults g.Do.Done.taken g.Do.Done.count g.Do.Done.served _ _ c.args.acceptor.now c.turn-turned.new.self _ _ c.requires.carries (accepts_more g.Li.Listener.given g.Li.Listener.left g.Li.Listener.rest g.Li.Link.Link.identity g.Li.Listener.ended g.Li.Listener.faults g.Do.Done.taken g.Do.Done.count g.Do.Done.served _ _ _ c.args.acceptor.now c.loop.acceptor c.turn-turned.new.self _ _ _ _ _ c.loop.invariant.0 c.turn-turned.ensures.does.acts)) c.loop.invariant.4
+
+pub returns-then-not-all_ready-clause-counts : goal.returns-then-not-all_ready-clause-counts
+returns-then-not-all_ready-clause-counts g c =
+    restarts_same (MayFault (g.F.ServerServiceFactory.may_ready c.args.factory.now) (g.F.ServerServiceFactory.may_init c.args.factory.now) _) _ _ _ c.loop.invariant.2 (c.wake.ensures)
+
+pub returns-then-not-all_ready-2-clause-accepts : goal.returns-then-not-all_ready-2-clause-accepts
+returns-then-not-all_ready-2-clause-accepts g c =
+    accepts_more g.Li.Listener.given g.Li.Listener.left g.Li.Listener.rest g.Li.Link.Link.identity g.Li.Listener.ended g.Li.Listener.faults g.Do.Done.taken g.Do.Done.count g.Do.Done.served _ _ _ c.args.acceptor.now c.loop.acceptor c.turn-turned.new.self _ _ _ _ _ c.loop.invariant.0 c.turn-turned.ensures.does.acts
 
 pub returns-then-not-all_ready-2-clause-hears : goal.returns-then-not-all_ready-2-clause-hears
 returns-then-not-all_ready-2-clause-hears g c =
-    hears_more g.Co.Commands.given g.Co.Commands.stops g.Co.Commands.idles g.Co.Commands.ended _ _ _ c.loop.acceptor c.turn-turned.new.self _ _ _ c.loop.invariant.3 c.turn-turned.ensures.takes c.turn-turned.ensures.does.logged.core c.turn-turned.ensures.onward c.turn-turned.ensures.timeout c.turn-turned.ensures.stop c.turn-turned.ensures.forces
+    hears_more g.Co.Commands.given g.Co.Commands.stops g.Co.Commands.idles g.Co.Commands.ended _ _ _ c.loop.acceptor c.turn-turned.new.self _ _ _ c.loop.invariant.3 c.turn-turned.ensures.takes c.turn-turned.ensures.does.acts.logged.core c.turn-turned.ensures.onward c.turn-turned.ensures.timeout c.turn-turned.ensures.stop c.turn-turned.ensures.forces
+
+pub returns-then-not-all_ready-2-clause-crew : goal.returns-then-not-all_ready-2-clause-crew
+returns-then-not-all_ready-2-clause-crew g c =
+    crew_turn g.Li.Listener.given g.Li.Listener.left g.Li.Listener.rest g.Li.Link.Link.identity g.Li.Listener.ended g.Li.Listener.faults g.Do.Done.taken g.Do.Done.count g.Do.Done.served g.F.ServerServiceFactory.may_serve g.F.ServerServiceFactory.may_leave g.F.ServerServiceFactory.may_ready g.F.ServerServiceFactory.may_init g.F.ServerServiceFactory.may_make c.args.factory.now _ _ _ c.loop.acceptor c.turn-turned.new.self _ _ _ _ c.turn-turned.ensures.does (even_after g.Li.Listener.given g.Li.Listener.left g.Li.Listener.rest g.Li.Link.Link.identity g.Li.Listener.ended g.Li.Listener.faults g.Do.Done.taken g.Do.Done.count g.Do.Done.served _ _ c.args.acceptor.now c.turn-turned.new.self _ _ c.requires.carries (accepts_more g.Li.Listener.given g.Li.Listener.left g.Li.Listener.rest g.Li.Link.Link.identity g.Li.Listener.ended g.Li.Listener.faults g.Do.Done.taken g.Do.Done.count g.Do.Done.served _ _ _ c.args.acceptor.now c.loop.acceptor c.turn-turned.new.self _ _ _ _ _ c.loop.invariant.0 c.turn-turned.ensures.does.acts)) c.loop.invariant.4
+
+pub returns-then-not-all_ready-2-clause-counts : goal.returns-then-not-all_ready-2-clause-counts
+returns-then-not-all_ready-2-clause-counts g c =
+    restarts_same (MayFault (g.F.ServerServiceFactory.may_ready c.args.factory.now) (g.F.ServerServiceFactory.may_init c.args.factory.now) _) _ _ _ c.loop.invariant.2 (c.wake.ensures)
+
+pub returns-then-accepted-eq0-clause-accepts : goal.returns-then-accepted-eq0-clause-accepts
+returns-then-accepted-eq0-clause-accepts g c =
+    accepts_more g.Li.Listener.given g.Li.Listener.left g.Li.Listener.rest g.Li.Link.Link.identity g.Li.Listener.ended g.Li.Listener.faults g.Do.Done.taken g.Do.Done.count g.Do.Done.served _ _ _ c.args.acceptor.now c.loop.acceptor c.turn-turned.new.self _ _ _ _ _ c.loop.invariant.0 c.turn-turned.ensures.does.acts
 
 pub returns-then-accepted-eq0-clause-hears : goal.returns-then-accepted-eq0-clause-hears
 returns-then-accepted-eq0-clause-hears g c =
-    hears_more g.Co.Commands.given g.Co.Commands.stops g.Co.Commands.idles g.Co.Commands.ended _ _ _ c.loop.acceptor c.turn-turned.new.self _ _ _ c.loop.invariant.3 c.turn-turned.ensures.takes c.turn-turned.ensures.does.logged.core c.turn-turned.ensures.onward c.turn-turned.ensures.timeout c.turn-turned.ensures.stop c.turn-turned.ensures.forces
+    hears_more g.Co.Commands.given g.Co.Commands.stops g.Co.Commands.idles g.Co.Commands.ended _ _ _ c.loop.acceptor c.turn-turned.new.self _ _ _ c.loop.invariant.3 c.turn-turned.ensures.takes c.turn-turned.ensures.does.acts.logged.core c.turn-turned.ensures.onward c.turn-turned.ensures.timeout c.turn-turned.ensures.stop c.turn-turned.ensures.forces
+
+pub returns-then-accepted-eq0-clause-crew : goal.returns-then-accepted-eq0-clause-crew
+returns-then-accepted-eq0-clause-crew g c =
+    crew_turn g.Li.Listener.given g.Li.Listener.left g.Li.Listener.rest g.Li.Link.Link.identity g.Li.Listener.ended g.Li.Listener.faults g.Do.Done.taken g.Do.Done.count g.Do.Done.served g.F.ServerServiceFactory.may_serve g.F.ServerServiceFactory.may_leave g.F.ServerServiceFactory.may_ready g.F.ServerServiceFactory.may_init g.F.ServerServiceFactory.may_make c.args.factory.now _ _ _ c.loop.acceptor c.turn-turned.new.self _ _ _ _ c.turn-turned.ensures.does (even_after g.Li.Listener.given g.Li.Listener.left g.Li.Listener.rest g.Li.Link.Link.identity g.Li.Listener.ended g.Li.Listener.faults g.Do.Done.taken g.Do.Done.count g.Do.Done.served _ _ c.args.acceptor.now c.turn-turned.new.self _ _ c.requires.carries (accepts_more g.Li.Listener.given g.Li.Listener.left g.Li.Listener.rest g.Li.Link.Link.identity g.Li.Listener.ended g.Li.Listener.faults g.Do.Done.taken g.Do.Done.count g.Do.Done.served _ _ _ c.args.acceptor.now c.loop.acceptor c.turn-turned.new.self _ _ _ _ _ c.loop.invariant.0 c.turn-turned.ensures.does.acts)) c.loop.invariant.4
+
+pub returns-then-accepted-eq0-clause-counts : goal.returns-then-accepted-eq0-clause-counts
+returns-then-accepted-eq0-clause-counts g c =
+    restarts_same (MayFault (g.F.ServerServiceFactory.may_ready c.args.factory.now) (g.F.ServerServiceFactory.may_init c.args.factory.now) _) _ _ _ c.loop.invariant.2 (c.wake.ensures)
+
+pub returns-in-Finished-clause-accepts : goal.returns-in-Finished-clause-accepts
+returns-in-Finished-clause-accepts g c =
+    accepts_as g.Li.Listener.given g.Li.Listener.left g.Li.Listener.rest g.Li.Link.Link.identity g.Li.Listener.ended g.Li.Listener.faults g.Do.Done.taken g.Do.Done.count g.Do.Done.served _ _ _ _ _ _ _ _ (not_alone c.turn-turned.new.self c.in-Finished.end (c.turn-turned.ensures.finished c.in-Finished.end c.in-Finished.is)) (accepts_more g.Li.Listener.given g.Li.Listener.left g.Li.Listener.rest g.Li.Link.Link.identity g.Li.Listener.ended g.Li.Listener.faults g.Do.Done.taken g.Do.Done.count g.Do.Done.served _ _ _ c.args.acceptor.now c.loop.acceptor c.turn-turned.new.self _ _ _ _ _ c.loop.invariant.0 c.turn-turned.ensures.does.acts)
 
 pub returns-in-Finished-clause-hears : goal.returns-in-Finished-clause-hears
 returns-in-Finished-clause-hears g c =
-    hears_more g.Co.Commands.given g.Co.Commands.stops g.Co.Commands.idles g.Co.Commands.ended _ _ _ c.loop.acceptor c.turn-turned.new.self _ _ _ c.loop.invariant.3 c.turn-turned.ensures.takes c.turn-turned.ensures.does.logged.core c.turn-turned.ensures.onward c.turn-turned.ensures.timeout c.turn-turned.ensures.stop c.turn-turned.ensures.forces
+    hears_more g.Co.Commands.given g.Co.Commands.stops g.Co.Commands.idles g.Co.Commands.ended _ _ _ c.loop.acceptor c.turn-turned.new.self _ _ _ c.loop.invariant.3 c.turn-turned.ensures.takes c.turn-turned.ensures.does.acts.logged.core c.turn-turned.ensures.onward c.turn-turned.ensures.timeout c.turn-turned.ensures.stop c.turn-turned.ensures.forces
+
+pub returns-in-Finished-clause-crew : goal.returns-in-Finished-clause-crew
+returns-in-Finished-clause-crew g c =
+    crew_turn g.Li.Listener.given g.Li.Listener.left g.Li.Listener.rest g.Li.Link.Link.identity g.Li.Listener.ended g.Li.Listener.faults g.Do.Done.taken g.Do.Done.count g.Do.Done.served g.F.ServerServiceFactory.may_serve g.F.ServerServiceFactory.may_leave g.F.ServerServiceFactory.may_ready g.F.ServerServiceFactory.may_init g.F.ServerServiceFactory.may_make c.args.factory.now _ _ _ c.loop.acceptor c.turn-turned.new.self _ _ _ _ c.turn-turned.ensures.does (even_after g.Li.Listener.given g.Li.Listener.left g.Li.Listener.rest g.Li.Link.Link.identity g.Li.Listener.ended g.Li.Listener.faults g.Do.Done.taken g.Do.Done.count g.Do.Done.served _ _ c.args.acceptor.now c.turn-turned.new.self _ _ c.requires.carries (accepts_more g.Li.Listener.given g.Li.Listener.left g.Li.Listener.rest g.Li.Link.Link.identity g.Li.Listener.ended g.Li.Listener.faults g.Do.Done.taken g.Do.Done.count g.Do.Done.served _ _ _ c.args.acceptor.now c.loop.acceptor c.turn-turned.new.self _ _ _ _ _ c.loop.invariant.0 c.turn-turned.ensures.does.acts)) c.loop.invariant.4
+
+pub returns-in-Finished-clause-counts : goal.returns-in-Finished-clause-counts
+returns-in-Finished-clause-counts g c =
+    restarts_same (MayFault (g.F.ServerServiceFactory.may_ready c.args.factory.now) (g.F.ServerServiceFactory.may_init c.args.factory.now) _) _ _ _ c.loop.invariant.2 (c.wake.ensures)
+
+pub returns-in-Stopped-clause-accepts : goal.returns-in-Stopped-clause-accepts
+returns-in-Stopped-clause-accepts g c =
+    accepts_as g.Li.Listener.given g.Li.Listener.left g.Li.Listener.rest g.Li.Link.Link.identity g.Li.Listener.ended g.Li.Listener.faults g.Do.Done.taken g.Do.Done.count g.Do.Done.served _ _ _ _ _ _ _ _ (not_alone c.turn-turned.new.self c.in-Finished.end (c.turn-turned.ensures.finished c.in-Finished.end c.in-Finished.is)) (accepts_more g.Li.Listener.given g.Li.Listener.left g.Li.Listener.rest g.Li.Link.Link.identity g.Li.Listener.ended g.Li.Listener.faults g.Do.Done.taken g.Do.Done.count g.Do.Done.served _ _ _ c.args.acceptor.now c.loop.acceptor c.turn-turned.new.self _ _ _ _ _ c.loop.invariant.0 c.turn-turned.ensures.does.acts)
+
+pub returns-in-Stopped-clause-hears : goal.returns-in-Stopped-clause-hears
+returns-in-Stopped-clause-hears g c =
+    hears_more g.Co.Commands.given g.Co.Commands.stops g.Co.Commands.idles g.Co.Commands.ended _ _ _ c.loop.acceptor c.turn-turned.new.self _ _ _ c.loop.invariant.3 c.turn-turned.ensures.takes c.turn-turned.ensures.does.acts.logged.core c.turn-turned.ensures.onward c.turn-turned.ensures.timeout c.turn-turned.ensures.stop c.turn-turned.ensures.forces
+
+pub returns-in-Stopped-clause-crew : goal.returns-in-Stopped-clause-crew
+returns-in-Stopped-clause-crew g c =
+    crew_turn g.Li.Listener.given g.Li.Listener.left g.Li.Listener.rest g.Li.Link.Link.identity g.Li.Listener.ended g.Li.Listener.faults g.Do.Done.taken g.Do.Done.count g.Do.Done.served g.F.ServerServiceFactory.may_serve g.F.ServerServiceFactory.may_leave g.F.ServerServiceFactory.may_ready g.F.ServerServiceFactory.may_init g.F.ServerServiceFactory.may_make c.args.factory.now _ _ _ c.loop.acceptor c.turn-turned.new.self _ _ _ _ c.turn-turned.ensures.does (even_after g.Li.Listener.given g.Li.Listener.left g.Li.Listener.rest g.Li.Link.Link.identity g.Li.Listener.ended g.Li.Listener.faults g.Do.Done.taken g.Do.Done.count g.Do.Done.served _ _ c.args.acceptor.now c.turn-turned.new.self _ _ c.requires.carries (accepts_more g.Li.Listener.given g.Li.Listener.left g.Li.Listener.rest g.Li.Link.Link.identity g.Li.Listener.ended g.Li.Listener.faults g.Do.Done.taken g.Do.Done.count g.Do.Done.served _ _ _ c.args.acceptor.now c.loop.acceptor c.turn-turned.new.self _ _ _ _ _ c.loop.invariant.0 c.turn-turned.ensures.does.acts)) c.loop.invariant.4
+
+pub returns-in-Stopped-clause-counts : goal.returns-in-Stopped-clause-counts
+returns-in-Stopped-clause-counts g c =
+    restarts_same (MayFault (g.F.ServerServiceFactory.may_ready c.args.factory.now) (g.F.ServerServiceFactory.may_init c.args.factory.now) _) _ _ _ c.loop.invariant.2 (c.wake.ensures)
+
+pub replace_one-requires-clause-number : goal.replace_one-requires-clause-number
+replace_one-requires-clause-number g c κs within = (
+  (c.turn-turned.ensures.worker_ended c.in-WorkerEnded.w c.in-WorkerEnded.is).0,
+  subst (λ k. 0 < k) (sym c.len-count.ensures) c.requires.count.0,
+  subst (λ k. k ≤ 64) (sym c.len-count.ensures) c.requires.count.1,
+)
+
+pub replace_one-requires-clause-crew : goal.replace_one-requires-clause-crew
+replace_one-requires-clause-crew g c κs within =
+    subst (λ k. Crew g.F.ServerServiceFactory.may_serve g.F.ServerServiceFactory.may_leave g.F.ServerServiceFactory.may_ready g.F.ServerServiceFactory.may_init g.F.ServerServiceFactory.may_make g.Li.Link.Link.identity c.args.factory.now k c.turn-turned.new.self c.loop.running.items) (sym c.len-count.ensures)
+    (crew_turn g.Li.Listener.given g.Li.Listener.left g.Li.Listener.rest g.Li.Link.Link.identity g.Li.Listener.ended g.Li.Listener.faults g.Do.Done.taken g.Do.Done.count g.Do.Done.served g.F.ServerServiceFactory.may_serve g.F.ServerServiceFactory.may_leave g.F.ServerServiceFactory.may_ready g.F.ServerServiceFactory.may_init g.F.ServerServiceFactory.may_make c.args.factory.now _ _ _ c.loop.acceptor c.turn-turned.new.self _ _ _ _ c.turn-turned.ensures.does (even_after g.Li.Listener.given g.Li.Listener.left g.Li.Listener.rest g.Li.Link.Link.identity g.Li.Listener.ended g.Li.Listener.faults g.Do.Done.taken g.Do.Done.count g.Do.Done.served _ _ c.args.acceptor.now c.turn-turned.new.self _ _ c.requires.carries (accepts_more g.Li.Listener.given g.Li.Listener.left g.Li.Listener.rest g.Li.Link.Link.identity g.Li.Listener.ended g.Li.Listener.faults g.Do.Done.taken g.Do.Done.count g.Do.Done.served _ _ _ c.args.acceptor.now c.loop.acceptor c.turn-turned.new.self _ _ _ _ _ c.loop.invariant.0 c.turn-turned.ensures.does.acts)) c.loop.invariant.4)
+
+pub replace_one-requires-clause-faulted : goal.replace_one-requires-clause-faulted
+replace_one-requires-clause-faulted g c κs within =
+    subst (λ k. HasFaulted g.F.ServerServiceFactory.may_serve g.F.ServerServiceFactory.may_leave g.F.ServerServiceFactory.may_ready g.F.ServerServiceFactory.may_init g.F.ServerServiceFactory.may_make g.Li.Link.Link.identity c.args.factory.now k c.turn-turned.new.self c.in-WorkerEnded.w c.loop.running.items) (sym c.len-count.ensures)
+    (faulted_turn g.Li.Listener.given g.Li.Listener.left g.Li.Listener.rest g.Li.Link.Link.identity g.Li.Listener.ended g.Li.Listener.faults g.Do.Done.taken g.Do.Done.count g.Do.Done.served g.F.ServerServiceFactory.may_serve g.F.ServerServiceFactory.may_leave g.F.ServerServiceFactory.may_ready g.F.ServerServiceFactory.may_init g.F.ServerServiceFactory.may_make c.args.factory.now _ _ _ c.loop.acceptor c.turn-turned.new.self _ _ _ _ c.turn-turned.ensures.does (even_after g.Li.Listener.given g.Li.Listener.left g.Li.Listener.rest g.Li.Link.Link.identity g.Li.Listener.ended g.Li.Listener.faults g.Do.Done.taken g.Do.Done.count g.Do.Done.served _ _ c.args.acceptor.now c.turn-turned.new.self _ _ c.requires.carries (accepts_more g.Li.Listener.given g.Li.Listener.left g.Li.Listener.rest g.Li.Link.Link.identity g.Li.Listener.ended g.Li.Listener.faults g.Do.Done.taken g.Do.Done.count g.Do.Done.served _ _ _ c.args.acceptor.now c.loop.acceptor c.turn-turned.new.self _ _ _ _ _ c.loop.invariant.0 c.turn-turned.ensures.does.acts)) c.loop.invariant.4 c.in-WorkerEnded.w (c.turn-turned.ensures.worker_ended c.in-WorkerEnded.w c.in-WorkerEnded.is).1
+    ((accepts_more g.Li.Listener.given g.Li.Listener.left g.Li.Listener.rest g.Li.Link.Link.identity g.Li.Listener.ended g.Li.Listener.faults g.Do.Done.taken g.Do.Done.count g.Do.Done.served _ _ _ c.args.acceptor.now c.loop.acceptor c.turn-turned.new.self _ _ _ _ _ c.loop.invariant.0 c.turn-turned.ensures.does.acts).acts.awaits.noted c.requires.noted) (search rules))
+
+pub replace_one-requires-clause-even : goal.replace_one-requires-clause-even
+replace_one-requires-clause-even g c κs within = even_after g.Li.Listener.given g.Li.Listener.left g.Li.Listener.rest g.Li.Link.Link.identity g.Li.Listener.ended g.Li.Listener.faults g.Do.Done.taken g.Do.Done.count g.Do.Done.served _ _ c.args.acceptor.now c.turn-turned.new.self _ _ c.requires.carries (accepts_more g.Li.Listener.given g.Li.Listener.left g.Li.Listener.rest g.Li.Link.Link.identity g.Li.Listener.ended g.Li.Listener.faults g.Do.Done.taken g.Do.Done.count g.Do.Done.served _ _ _ c.args.acceptor.now c.loop.acceptor c.turn-turned.new.self _ _ _ _ _ c.loop.invariant.0 c.turn-turned.ensures.does.acts)
+
+pub returns-then-replace_one-clause-accepts : goal.returns-then-replace_one-clause-accepts
+returns-then-replace_one-clause-accepts g c =
+    accepts_as g.Li.Listener.given g.Li.Listener.left g.Li.Listener.rest g.Li.Link.Link.identity g.Li.Listener.ended g.Li.Listener.faults g.Do.Done.taken g.Do.Done.count g.Do.Done.served _ _ _ _ _ _ _ _ (sym c.if-replace_one.true) (accepts_more g.Li.Listener.given g.Li.Listener.left g.Li.Listener.rest g.Li.Link.Link.identity g.Li.Listener.ended g.Li.Listener.faults g.Do.Done.taken g.Do.Done.count g.Do.Done.served _ _ _ c.args.acceptor.now c.turn-turned.new.self c.replace_one.new.acceptor _ _ _ _ _ (accepts_more g.Li.Listener.given g.Li.Listener.left g.Li.Listener.rest g.Li.Link.Link.identity g.Li.Listener.ended g.Li.Listener.faults g.Do.Done.taken g.Do.Done.count g.Do.Done.served _ _ _ c.args.acceptor.now c.loop.acceptor c.turn-turned.new.self _ _ _ _ _ c.loop.invariant.0 c.turn-turned.ensures.does.acts) (c.replace_one.ensures.goes c.turn-turned.new.listeners.items).1)
+
+pub returns-then-replace_one-clause-hears : goal.returns-then-replace_one-clause-hears
+returns-then-replace_one-clause-hears g c =
+    hears_leaves g.Co.Commands.given g.Co.Commands.stops g.Co.Commands.ended _ _ c.turn-turned.new.self c.replace_one.new.acceptor _ _ _ (hears_more g.Co.Commands.given g.Co.Commands.stops g.Co.Commands.idles g.Co.Commands.ended _ _ _ c.loop.acceptor c.turn-turned.new.self _ _ _ c.loop.invariant.3 c.turn-turned.ensures.takes c.turn-turned.ensures.does.acts.logged.core c.turn-turned.ensures.onward c.turn-turned.ensures.timeout c.turn-turned.ensures.stop c.turn-turned.ensures.forces) c.replace_one.ensures.rest
+
+pub loop-preserved : goal.loop-preserved
+loop-preserved g c = (
+  accepts_as g.Li.Listener.given g.Li.Listener.left g.Li.Listener.rest g.Li.Link.Link.identity g.Li.Listener.ended g.Li.Listener.faults g.Do.Done.taken g.Do.Done.count g.Do.Done.served _ _ _ _ _ _ _ _ (sym c.if-replace_one.false) (accepts_more g.Li.Listener.given g.Li.Listener.left g.Li.Listener.rest g.Li.Link.Link.identity g.Li.Listener.ended g.Li.Listener.faults g.Do.Done.taken g.Do.Done.count g.Do.Done.served _ _ _ c.args.acceptor.now c.turn-turned.new.self c.replace_one.new.acceptor _ _ _ _ _ (accepts_more g.Li.Listener.given g.Li.Listener.left g.Li.Listener.rest g.Li.Link.Link.identity g.Li.Listener.ended g.Li.Listener.faults g.Do.Done.taken g.Do.Done.count g.Do.Done.served _ _ _ c.args.acceptor.now c.loop.acceptor c.turn-turned.new.self _ _ _ _ _ c.loop.invariant.0 c.turn-turned.ensures.does.acts) (c.replace_one.ensures.goes c.turn-turned.new.listeners.items).1),
+  can_accept_leaves g.Li.Listener.given g.Li.Listener.left g.Li.Listener.rest g.Li.Link.Link.identity g.Li.Listener.ended g.Li.Listener.faults g.Do.Done.taken g.Do.Done.count g.Do.Done.served _ c.turn-turned.new.self c.replace_one.new.acceptor _ _ (can_accept_on g.Li.Listener.given g.Li.Listener.left g.Li.Listener.rest g.Li.Link.Link.identity g.Li.Listener.ended g.Li.Listener.faults g.Do.Done.taken g.Do.Done.count g.Do.Done.served _ _ c.loop.acceptor c.turn-turned.new.self _ _ _ _ _ _ c.loop.invariant.1 c.turn-turned.ensures.does.acts c.turn-turned.ensures.given c.turn-turned.ensures.spare) c.replace_one.ensures.rest c.replace_one.ensures.spare,
+  restarts_trans (MayFault (g.F.ServerServiceFactory.may_ready c.args.factory.now) (g.F.ServerServiceFactory.may_init c.args.factory.now) _) _ _ _ (restarts_same (MayFault (g.F.ServerServiceFactory.may_ready c.args.factory.now) (g.F.ServerServiceFactory.may_init c.args.factory.now) _) _ _ _ c.loop.invariant.2 c.wake.ensures) (subst (λ k. Restarts (MayFault (g.F.ServerServiceFactory.may_ready c.args.factory.now) (g.F.ServerServiceFactory.may_init c.args.factory.now) k) (g.Sp.Spawner.starts c.wake.new.spawner, g.Sp.Spawner.refusals c.wake.new.spawner) (g.Sp.Spawner.starts c.replace_one.new.spawner, g.Sp.Spawner.refusals c.replace_one.new.spawner)) c.len-count.ensures c.replace_one.ensures.counts),
+  hears_leaves g.Co.Commands.given g.Co.Commands.stops g.Co.Commands.ended _ _ c.turn-turned.new.self c.replace_one.new.acceptor _ _ _ (hears_more g.Co.Commands.given g.Co.Commands.stops g.Co.Commands.idles g.Co.Commands.ended _ _ _ c.loop.acceptor c.turn-turned.new.self _ _ _ c.loop.invariant.3 c.turn-turned.ensures.takes c.turn-turned.ensures.does.acts.logged.core c.turn-turned.ensures.onward c.turn-turned.ensures.timeout c.turn-turned.ensures.stop c.turn-turned.ensures.forces) c.replace_one.ensures.rest,
+  subst (λ k. Crew g.F.ServerServiceFactory.may_serve g.F.ServerServiceFactory.may_leave g.F.ServerServiceFactory.may_ready g.F.ServerServiceFactory.may_init g.F.ServerServiceFactory.may_make g.Li.Link.Link.identity c.args.factory.now k c.replace_one.new.acceptor c.replace_one.new.running.items) c.len-count.ensures c.replace_one.ensures.crew,
+  c.replace_one.ensures.as_many ∙ c.loop.invariant.5,
+)
+
+pub returns-in-Stopped-clause-finished : goal.returns-in-Stopped-clause-finished
+returns-in-Stopped-clause-finished g c = (
+  λ calm. absurd (true≢false (sym (ap is_stop c.in-Stopped.is) ∙ calm)),
+  ends_so _ c.turn-turned.new.self c.in-Finished.end (c.turn-turned.ensures.finished c.in-Finished.end c.in-Finished.is),
+)
+
+pub returns-in-Finished-clause-finished : goal.returns-in-Finished-clause-finished
+returns-in-Finished-clause-finished g c = (
+  λ calm. search rules,
+  ends_so _ c.turn-turned.new.self c.in-Finished.end (c.turn-turned.ensures.finished c.in-Finished.end c.in-Finished.is),
+)

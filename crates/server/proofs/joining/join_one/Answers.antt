@@ -1,24 +1,33 @@
-use Rattle.std.proofs.Common.{inl, inr, refl, sym, ◌∙◌}
+use Rattle.std.proofs.Common.{Some, inl, inr, refl, sym, ◌∙◌}
+use Rattle.server.specs.Rows.{row_of}
 use Rattle.server.proofs.joining.join_one.Goals as goal
 
-pub returns-in-Unstarted-clause-unstarted : goal.returns-in-Unstarted-clause-unstarted
-returns-in-Unstarted-clause-unstarted g c =
+pub returns-in-Unstarted : goal.returns-in-Unstarted
+returns-in-Unstarted g c =
     let hands = c.join-handed.ensures.handed in
     record {
-      line = c.args.line;
-      at = refl;
-      out = hands.out;
-      promised = hands.promised;
-      departed = inl (sym hands.same.3 ∙ c.in-Unstarted.is);
+      unstarted = record {
+        row = row_of c.args.line.parcels c.args.line.notes (Some c.args.line.running);
+        at = refl;
+        running = c.args.line.running;
+        runs = refl;
+        out = hands.out;
+        promised = hands.promised;
+        departed = inl (sym hands.same.3 ∙ c.in-Unstarted.is);
+      };
     }
 
-pub returns-in-Faulted-clause-unstarted : goal.returns-in-Faulted-clause-unstarted
-returns-in-Faulted-clause-unstarted g c =
+pub returns-in-Faulted : goal.returns-in-Faulted
+returns-in-Faulted g c =
     let hands = c.join-handed.ensures.handed in
     record {
-      line = c.args.line;
-      at = refl;
-      out = hands.out;
-      promised = hands.promised;
-      departed = inr (c.in-Faulted.readiness, sym hands.same.3 ∙ c.in-Faulted.is);
+      unstarted = record {
+        row = row_of c.args.line.parcels c.args.line.notes (Some c.args.line.running);
+        at = refl;
+        running = c.args.line.running;
+        runs = refl;
+        out = hands.out;
+        promised = hands.promised;
+        departed = inr (c.in-Faulted.readiness, sym hands.same.3 ∙ c.in-Faulted.is);
+      };
     }

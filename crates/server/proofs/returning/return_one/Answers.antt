@@ -5,7 +5,7 @@ use Rattle.server.proofs.returning.return_one.Goals as goal
 pub hand_on-requires : goal.hand_on-requires
 hand_on-requires g c =
     room_for g.L.Link.identity (λ job out. HandsOver g.L.Link.identity g.F.ServerServiceFactory.may_serve g.F.ServerServiceFactory.may_leave g.F.ServerServiceFactory.may_ready g.F.ServerServiceFactory.may_init g.F.ServerServiceFactory.may_make job out) (λ all. all)
-    c.join-joined.result c.args.line _ c.join-joined.ensures.once c.join-joined.ensures.sent c.join-joined.ensures.received c.requires.room
+    c.args.worker c.join-joined.result c.args.line _ c.join-joined.ensures.once c.join-joined.ensures.sent c.join-joined.ensures.received c.requires.room
 
 pub returns : goal.returns
 returns g c = record {

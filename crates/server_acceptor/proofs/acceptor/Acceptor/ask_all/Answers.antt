@@ -6,7 +6,7 @@ use Rattle.server_acceptor.proofs.acceptor.Acceptor.ask_all.Goals as goal
 pub returns-in_default-clause-in_turn : goal.returns-in_default-clause-in_turn
 returns-in_default-clause-in_turn g c = in_turn_halted g.Li.Listener.given g.Li.Listener.waits g.Li.Listener.skips c.args.now c.args.listeners.now.items c.ask_from.new.listeners.items c.args.self.now c.ask_from.new.self c.args.self.now.first c.len.result
     (record { asks = c.ask_from.ensures.asks; rests = c.ask_from.ensures.rests; order = c.ask_from.ensures.order })
-    refl (omega (arith, c.len.ensures, c.requires.as_many, c.ask_from.ensures.proceeds.does.listeners))
+    refl (omega (arith, c.len.ensures, c.requires.as_many, c.ask_from.ensures.proceeds.does.acts.listeners))
 
 pub returns-in-Settled-clause-proceeds : goal.returns-in-Settled-clause-proceeds
 returns-in-Settled-clause-proceeds g c = proceeds_trans g.Li.Listener.given g.Li.Listener.left g.Li.Listener.rest g.L.Link.identity g.Li.Listener.ended g.Li.Listener.faults g.Do.Done.taken g.Do.Done.count g.Do.Done.served
@@ -27,7 +27,7 @@ returns-in-Settled-clause-in_turn g c = in_turn_round g.Li.Listener.given g.Li.L
     (subst (λ k. AskedPart g.Li.Listener.given g.Li.Listener.waits g.Li.Listener.skips c.args.now c.ask_from.new.listeners.items c.ask_from-in-Settled.new.listeners.items c.ask_from.new.self c.ask_from-in-Settled.new.self 0 k)
     c.ask_from.ensures.asks.first
     (record { asks = c.ask_from-in-Settled.ensures.asks; rests = c.ask_from-in-Settled.ensures.rests; order = c.ask_from-in-Settled.ensures.order }))
-    refl (omega (arith, c.len.ensures, c.requires.as_many, c.ask_from.ensures.proceeds.does.listeners, c.ask_from-in-Settled.ensures.proceeds.does.listeners))
+    refl (omega (arith, c.len.ensures, c.requires.as_many, c.ask_from.ensures.proceeds.does.acts.listeners, c.ask_from-in-Settled.ensures.proceeds.does.acts.listeners))
 
 pub returns-in-Settled-clause-settled : goal.returns-in-Settled-clause-settled
 returns-in-Settled-clause-settled g c is =
@@ -40,7 +40,7 @@ returns-in-Settled-clause-settled g c is =
           c.ask_from.ensures.asks.first
           (record { asks = c.ask_from-in-Settled.ensures.asks; rests = c.ask_from-in-Settled.ensures.rests; order = c.ask_from-in-Settled.ensures.order }))
           (λ v above below. settles.1 v above (omega (arith, below, c.ask_from.ensures.asks.first))) t
-          (omega (arith, inside, c.len.ensures, c.requires.as_many, c.ask_from.ensures.proceeds.does.listeners, c.ask_from-in-Settled.ensures.proceeds.does.listeners)),
+          (omega (arith, inside, c.len.ensures, c.requires.as_many, c.ask_from.ensures.proceeds.does.acts.listeners, c.ask_from-in-Settled.ensures.proceeds.does.acts.listeners)),
     )
 
 pub returns-in-Settled-clause-ended : goal.returns-in-Settled-clause-ended

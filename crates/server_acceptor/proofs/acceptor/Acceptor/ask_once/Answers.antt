@@ -31,7 +31,7 @@ returns-in-Got-clause-on g c is =
     let listeners = c.ask_listener.new.listeners.items in
     let none = c.place_one.ensures.none_asked listeners in (
       c.place_one.ensures.on is,
-      open_then listeners listeners c.ask_listener.new.self c.place_one.new.self c.args.t none (c.place_one.ensures.proceeds listeners).does.listeners c.in-Got.ensures.comes.0.opened,
+      open_then listeners listeners c.ask_listener.new.self c.place_one.new.self c.args.t none (c.place_one.ensures.proceeds listeners).does.acts.listeners c.in-Got.ensures.comes.0.opened,
       failures_then listeners listeners c.ask_listener.new.self c.place_one.new.self c.args.t none ∙ c.in-Got.ensures.comes.0.failures ∙ ap (λ v. count_by (is_failed c.args.t) v.items) c.has_room.ensures.makes.events,
       inl c.in-Got.ensures.comes.1,
     )

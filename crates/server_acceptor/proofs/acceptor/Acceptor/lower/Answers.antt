@@ -1,7 +1,7 @@
 use Rattle.std.proofs.Common.{◌∙◌, ap, arith, rules}
 use Rattle.server_core.specs.Core.{Core, step}
 use Rattle.server_core.specs.declared.event.Event.TheVariants.{Notice}
-use Rattle.server_acceptor.proofs.HandSteps.{given_some, in_turn_kept, lowered_back, lowered_freed, out_lowered, ruled_freed, ruled_lower, sum_lower}
+use Rattle.server_acceptor.proofs.HandSteps.{given_some, lowered_back, lowered_freed, out_lowered, ruled_freed, ruled_lower, sum_lower}
 use Rattle.server_acceptor.proofs.PlaceSteps.{patient_kept}
 use Rattle.server_acceptor.proofs.acceptor.Acceptor.lower.Goals as goal
 
@@ -9,12 +9,10 @@ pub overflow_sub-self : goal.overflow_sub-self
 overflow_sub-self g c = omega (arith, c.args.self.now.out_counted, sum_lower c.args.self.now.core.out c.args.w c.requires.number c.requires.out)
 
 pub invariant_of-self-clause-rule : goal.invariant_of-self-clause-rule
-invariant_of-self-clause-rule g c = ruled_freed c.args.self.now.core _ _ c.args.w c.args.self.now.rule c.requires.number (search rules) c.requires.out (c.args.self.now.in_turn c.args.w c.requires.number)
+invariant_of-self-clause-rule g c =
+    let full = c.is_full-was_full.ensures.yes (search rules) in
+    ruled_freed c.args.self.now.core _ _ c.args.w c.args.self.now.rule c.requires.number full.1 c.requires.out full.0
     (c.log-then-was_full.ensures.core ∙ ap (λ s. step s (Notice c.args.w)) c.log.ensures.core)
-
-pub invariant_of-self-clause-in_turn : goal.invariant_of-self-clause-in_turn
-invariant_of-self-clause-in_turn g c = in_turn_kept c.args.self.now.core c.log-then-was_full.new.core
-    (ap (λ (s : Core). s.order) (c.log-then-was_full.ensures.core ∙ ap (λ s. step s (Notice c.args.w)) c.log.ensures.core)) (c.log-then-was_full.ensures.workers ∙ c.log.ensures.workers) c.args.self.now.in_turn
 
 pub invariant_of-self-clause-out_counted : goal.invariant_of-self-clause-out_counted
 invariant_of-self-clause-out_counted g c = out_lowered c.args.self.now.core c.log-then-was_full.new.core c.args.w _ c.requires.number c.requires.out c.args.self.now.out_counted
@@ -26,10 +24,7 @@ invariant_of-self-clause-patient g c = patient_kept c.args.self.now.core c.log-t
     (ap (λ (s : Core). s.failures) (c.log-then-was_full.ensures.core ∙ ap (λ s. step s (Notice c.args.w)) c.log.ensures.core)) c.args.self.now.patient
 
 pub invariant_of-self-else-was_full-clause-rule : goal.invariant_of-self-else-was_full-clause-rule
-invariant_of-self-else-was_full-clause-rule g c = ruled_lower c.args.self.now.core _ _ c.args.w c.args.self.now.rule c.requires.number (search rules) c.requires.out c.log.ensures.core
-
-pub invariant_of-self-else-was_full-clause-in_turn : goal.invariant_of-self-else-was_full-clause-in_turn
-invariant_of-self-else-was_full-clause-in_turn g c = in_turn_kept c.args.self.now.core c.log.new.core (ap (λ (s : Core). s.order) c.log.ensures.core) c.log.ensures.workers c.args.self.now.in_turn
+invariant_of-self-else-was_full-clause-rule g c = ruled_lower c.args.self.now.core _ _ c.args.w c.args.self.now.rule c.requires.number (c.is_full-was_full.ensures.no (search rules)) c.requires.out c.log.ensures.core
 
 pub invariant_of-self-else-was_full-clause-out_counted : goal.invariant_of-self-else-was_full-clause-out_counted
 invariant_of-self-else-was_full-clause-out_counted g c = out_lowered c.args.self.now.core c.log.new.core c.args.w _ c.requires.number c.requires.out c.args.self.now.out_counted (ap (λ (s : Core). s.out) c.log.ensures.core)
@@ -44,7 +39,8 @@ returns-else-was_full-clause-lowers g c =
 
 pub returns-then-was_full-clause-lowers : goal.returns-then-was_full-clause-lowers
 returns-then-was_full-clause-lowers g c =
-    let e = lowered_freed c.args.self.now.core c.log.new.core c.log-then-was_full.new.core _ c.args.w _ _ _ c.args.self.now.rule (c.args.self.now.in_turn c.args.w c.requires.number) (search rules) c.requires.number c.requires.out
+    let full = c.is_full-was_full.ensures.yes (search rules) in
+    let e = lowered_freed c.args.self.now.core c.log.new.core c.log-then-was_full.new.core _ c.args.w _ _ _ c.args.self.now.rule full.0 full.1 c.requires.number c.requires.out
     c.log.ensures.core c.log.ensures.events c.log-then-was_full.ensures.core c.log-then-was_full.ensures.events in
     record { logs = e.0; returns = e.1.0; backs = e.1.1 }
 

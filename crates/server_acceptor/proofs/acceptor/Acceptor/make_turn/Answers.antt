@@ -76,7 +76,7 @@ returns-clause-settled g c is = let s = c.ask_all.ensures.settled is in (s.0, λ
 pub returns-clause-ended : goal.returns-clause-ended
 returns-clause-ended g c w is =
     let fault = c.ask_all.ensures.ended w is in
-    (fault.0, ends_later _ _ _ w (c.take_notes.ensures.hands.receives w) (ends_later _ _ _ w ((c.place_one.ensures.proceeds c.args.listeners.now.items).does.receives w) fault.1))
+    (fault.0, ends_later _ _ _ w (c.take_notes.ensures.hands.receives w) (ends_later _ _ _ w ((c.place_one.ensures.proceeds c.args.listeners.now.items).does.acts.receives w) fault.1))
 
 pub returns-then-not-idle-clause-proceeds : goal.returns-then-not-idle-clause-proceeds
 returns-then-not-idle-clause-proceeds g c =

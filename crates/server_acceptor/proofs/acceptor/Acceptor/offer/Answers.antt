@@ -3,7 +3,6 @@ use Rattle.std.specs.Prelude.{slice_index, sum}
 use Rattle.std.proofs.Math.ListN.{length-set}
 use Rattle.server_core.specs.Core.{Core, step}
 use Rattle.server_core.specs.declared.event.Event.TheVariants.{Notice, RingFull}
-use Rattle.server_acceptor.proofs.HandSteps.{in_turn_kept}
 use Rattle.server_acceptor.proofs.PlaceSteps.{back_again, below_limit, keeps_sent, no_place_at, no_place_other, no_place_still, puts_at, out_fits, patient_kept, ruled_after_sent, ruled_full, sum_higher}
 use Rattle.server_acceptor.specs.Placing.{parcel_of}
 use Rattle.server_acceptor.proofs.Sendings.{are_sent_kept, are_sent_put}
@@ -57,13 +56,6 @@ returns-in-Err-Full-clause-refused g c = λ _. record {
   core = c.log-in-Err-Full-2.ensures.core ∙ ap (λ s. step s (Notice c.args.w)) c.log-in-Err-Full.ensures.core;
   events = c.log-in-Err-Full-2.ensures.events ∙ ap (λ es. es ++ Notice c.args.w ∷ []) c.log-in-Err-Full.ensures.events ∙ append_assoc c.args.self.now.events.items (RingFull c.args.w ∷ []) (Notice c.args.w ∷ []);
 }
-
-pub invariant_of-self-clause-in_turn : goal.invariant_of-self-clause-in_turn
-invariant_of-self-clause-in_turn g c = in_turn_kept c.args.self.now.core c.log.new.core (ap (λ (s : Core). s.order) c.log.ensures.core) c.log.ensures.workers c.args.self.now.in_turn
-
-pub invariant_of-self-in-Err-Full-clause-in_turn : goal.invariant_of-self-in-Err-Full-clause-in_turn
-invariant_of-self-in-Err-Full-clause-in_turn g c = in_turn_kept c.args.self.now.core c.log-in-Err-Full-2.new.core
-    (ap (λ (s : Core). s.order) (c.log-in-Err-Full-2.ensures.core ∙ ap (λ s. step s (Notice c.args.w)) c.log-in-Err-Full.ensures.core)) (c.log-in-Err-Full-2.ensures.workers ∙ c.log-in-Err-Full.ensures.workers) c.args.self.now.in_turn
 
 pub invariant_of-self-clause-patient : goal.invariant_of-self-clause-patient
 invariant_of-self-clause-patient g c = patient_kept c.args.self.now.core c.log.new.core _ (ap (λ (s : Core). s.ended) c.log.ensures.core) (ap (λ (s : Core). s.failures) c.log.ensures.core) c.args.self.now.patient

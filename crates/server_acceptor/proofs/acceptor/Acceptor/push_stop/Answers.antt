@@ -31,8 +31,8 @@ invariant_of-self g c =
       stopped_sent = are_sent_pushed a.parcels.items is_stop a.stopped.items c.args.w c.index_mut.result.now c.push.new.self (Stop c.args.graceful) c.push.result inside c.index_mut.ensures.value c.push.ensures.ring c.push.ensures.ok c.push.ensures.full a.stopped_sent;
       forced_sent = are_sent_pushed a.parcels.items is_force a.forced.items c.args.w c.index_mut.result.now c.push.new.self (Stop c.args.graceful) c.push.result inside c.index_mut.ensures.value c.push.ensures.ring c.push.ensures.ok c.push.ensures.full a.forced_sent;
       patient = a.patient;
-      in_turn = a.in_turn;
       rule = a.rule;
+      some_limit = a.some_limit;
     }
 
 pub returns-clause-puts : goal.returns-clause-puts

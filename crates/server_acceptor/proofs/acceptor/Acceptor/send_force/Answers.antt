@@ -7,7 +7,7 @@ use Rattle.server_jobs.specs.Parcels.{is_force, is_stop}
 use Rattle.server_acceptor.proofs.acceptor.Acceptor.send_force.Goals as goal
 
 pub returns-then-index-clause-proceeds : goal.returns-then-index-clause-proceeds
-returns-then-index-clause-proceeds g c ls d = stop_proceeds g.Li.Listener.given g.Li.Listener.left g.Li.Listener.rest g.L.Link.identity g.Li.Listener.ended g.Li.Listener.faults g.Do.Done.taken g.Do.Done.count g.Do.Done.served ls c.args.self.now _ d (g.met.Do.Done.small d) (record { core = refl; events = refl; notes = refl; ready = refl; waiting = refl; serial = refl; places = refl; failed = refl; first = refl; retry_limit = refl; shutdown_timeout = refl; lacks_room = refl; stop = refl }) (inl (record { rings = refl; sent_on = refl })) refl
+returns-then-index-clause-proceeds g c ls d = stop_proceeds g.Li.Listener.given g.Li.Listener.left g.Li.Listener.rest g.L.Link.identity g.Li.Listener.ended g.Li.Listener.faults g.Do.Done.taken g.Do.Done.count g.Do.Done.served ls c.args.self.now _ d (g.met.Do.Done.small d) (record { core = refl; events = refl; notes = refl; ready = refl; waiting = refl; serial = refl; places = refl; failed = refl; first = refl; limit = refl; retry_limit = refl; shutdown_timeout = refl; lacks_room = refl; stop = refl }) (inl (record { rings = refl; sent_on = refl })) refl
 
 pub returns-then-not-push_stop-clause-proceeds : goal.returns-then-not-push_stop-clause-proceeds
 returns-then-not-push_stop-clause-proceeds g c ls d =
@@ -18,7 +18,7 @@ pub returns-clause-proceeds : goal.returns-clause-proceeds
 returns-clause-proceeds g c ls d =
     let p = c.push_stop.ensures.puts (search rules) in
     let o = c.push_stop.ensures.only in
-    stop_proceeds g.Li.Listener.given g.Li.Listener.left g.Li.Listener.rest g.L.Link.identity g.Li.Listener.ended g.Li.Listener.faults g.Do.Done.taken g.Do.Done.count g.Do.Done.served ls c.args.self.now _ d (g.met.Do.Done.small d) (record { core = o.core; events = o.events; notes = o.notes; ready = o.ready; waiting = o.waiting; serial = o.serial; places = o.places; failed = o.failed; first = o.first; retry_limit = o.retry_limit; shutdown_timeout = o.shutdown_timeout; lacks_room = o.lacks_room; stop = o.stop }) (inr (c.args.w, false, p)) p.rings
+    stop_proceeds g.Li.Listener.given g.Li.Listener.left g.Li.Listener.rest g.L.Link.identity g.Li.Listener.ended g.Li.Listener.faults g.Do.Done.taken g.Do.Done.count g.Do.Done.served ls c.args.self.now _ d (g.met.Do.Done.small d) (record { core = o.core; events = o.events; notes = o.notes; ready = o.ready; waiting = o.waiting; serial = o.serial; places = o.places; failed = o.failed; first = o.first; limit = o.limit; retry_limit = o.retry_limit; shutdown_timeout = o.shutdown_timeout; lacks_room = o.lacks_room; stop = o.stop }) (inr (c.args.w, false, p)) p.rings
 
 pub invariant_of-self-2-clause-forced_sent : goal.invariant_of-self-2-clause-forced_sent
 invariant_of-self-2-clause-forced_sent g c = are_sent_marked c.push_stop.new.self.parcels.items is_force c.push_stop.new.self.forced.items c.args.w

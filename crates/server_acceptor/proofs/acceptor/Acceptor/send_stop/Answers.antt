@@ -21,7 +21,7 @@ pub returns-clause-proceeds : goal.returns-clause-proceeds
 returns-clause-proceeds g c ls d =
     let p = c.push_stop.ensures.puts (search rules) in
     let o = c.push_stop.ensures.only in
-    stop_proceeds g.Li.Listener.given g.Li.Listener.left g.Li.Listener.rest g.L.Link.identity g.Li.Listener.ended g.Li.Listener.faults g.Do.Done.taken g.Do.Done.count g.Do.Done.served ls c.args.self.now _ d (g.met.Do.Done.small d) (record { core = o.core; events = o.events; notes = o.notes; ready = o.ready; waiting = o.waiting; serial = o.serial; places = o.places; failed = o.failed; first = o.first; retry_limit = o.retry_limit; shutdown_timeout = o.shutdown_timeout; lacks_room = o.lacks_room; stop = o.stop }) (inr (c.args.w, true, p)) p.rings
+    stop_proceeds g.Li.Listener.given g.Li.Listener.left g.Li.Listener.rest g.L.Link.identity g.Li.Listener.ended g.Li.Listener.faults g.Do.Done.taken g.Do.Done.count g.Do.Done.served ls c.args.self.now _ d (g.met.Do.Done.small d) (record { core = o.core; events = o.events; notes = o.notes; ready = o.ready; waiting = o.waiting; serial = o.serial; places = o.places; failed = o.failed; first = o.first; limit = o.limit; retry_limit = o.retry_limit; shutdown_timeout = o.shutdown_timeout; lacks_room = o.lacks_room; stop = o.stop }) (inr (c.args.w, true, p)) p.rings
 
 pub returns-clause-forces : goal.returns-clause-forces
 returns-clause-forces g c v is = forced_put c.args.self.now.parcels.items c.push_stop.new.self.parcels.items c.args.w v (Stop true) refl (c.push_stop.ensures.puts (search rules)) is

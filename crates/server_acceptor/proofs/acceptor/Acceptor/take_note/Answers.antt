@@ -1,15 +1,15 @@
-use Rattle.std.proofs.Common.{◌<◌, [], ◌∷◌, true, false, refl, sym, ◌∙◌, ap, arith, length}
-use Rattle.std.specs.Prelude.{slice_index_or}
-use Rattle.std.specs.List.{list_all}
+use Rattle.std.proofs.Common.{◌<◌, [], true, refl, ◌∙◌, ap, arith, length}
+use Rattle.std.specs.Prelude.{is_some}
 use Rattle.std.proofs.Math.ListN.{length-set}
 use Rattle.std.proofs.lemmas.List.Elements.{All-nil}
 use Rattle.server_acceptor.proofs.Giving.{adds_none}
 use Rattle.server_jobs.specs.Cards.{of_note}
 use Rattle.server_jobs.specs.declared.note.Note.TheVariants.{Ready, Back, Faulted}
-use Rattle.server_acceptor.proofs.HandSteps.{balance_same, balance_then, came_more, came_then, founded_at_back, kept_notes, kept_then, noted_then, out_at_back, out_some, rings_then, same_ends, spare_left}
+use Rattle.server_acceptor.proofs.HandSteps.{balance_same, came_more, kept_notes, may_back, out_at_back, out_some, same_ends, spare_left}
+use Rattle.server_acceptor.proofs.Handed.{handed_back}
 use Rattle.server_acceptor.proofs.LogSteps.{logs_none}
 use Rattle.server_acceptor.proofs.NoteSteps.{fewer_known}
-use Rattle.server_acceptor.proofs.Taking.{all_marked, backs_more, count_as_none, count_as_one, has_still, marked_now, not_all_before, one_note, out_elsewhere, received_more, received_this, told_still}
+use Rattle.server_acceptor.proofs.Taking.{all_marked, backs_more, count_as_none, has_still, marked_now, not_all_before, one_note, out_elsewhere, received_more, received_this, told_still}
 use Rattle.server_acceptor.proofs.acceptor.Acceptor.take_note.Goals as goal
 
 pub take-requires : goal.take-requires
@@ -20,45 +20,14 @@ returns-in-Back-clause-spare g c = spare_left c.args.self.now.core c.lower.new.s
 
 pub returns-in-Back-clause-hands : goal.returns-in-Back-clause-hands
 returns-in-Back-clause-hands g c =
-    let is = c.index_mut.ensures.value in
-    let more = c.pop_known.ensures.received.0 in
     let inside : c.args.w < length c.args.self.now.notes.items = omega (arith, c.requires.number, c.args.self.now.workers.1) in
-    record {
-      entries = c.in-Back.entry ∷ [];
-      adds = c.take.ensures.entry;
-      rings = rings_then c.lower.new.self.notes.items c.args.self.now.notes.items c.args.w c.index_mut.result.now c.pop_known.new.self c.pop_known.result c.in-Back.entry c.lower.ensures.notes inside c.index_mut.ensures.value c.pop_known.ensures.received.0 c.in-Back.is c.pop_known.ensures.ring;
-      back = λ h. came_then c.lower.new.self.notes.items c.args.self.now.notes.items c.args.w c.index_mut.result.now c.pop_known.new.self c.pop_known.result c.in-Back.entry c.lower.ensures.notes inside c.index_mut.ensures.value c.pop_known.ensures.received.0 c.in-Back.is g.L.Link.identity h;
-      noted = noted_then c.lower.new.self.notes.items c.args.self.now.notes.items c.args.w c.index_mut.result.now c.pop_known.new.self c.pop_known.result c.in-Back.entry c.lower.ensures.notes inside c.index_mut.ensures.value c.pop_known.ensures.received.0 c.in-Back.is;
-      founded = founded_at_back c.args.self.now.notes.items c.args.w _ _ _ c.index_mut.result.now c.pop_known.result _ c.in-Back.entry inside c.index_mut.ensures.value c.pop_known.ensures.received.1 c.in-Back.is c.requires.may c.lower.ensures.stopping;
-      kept = kept_then c.lower.new.self.notes.items c.args.self.now.notes.items c.args.w c.index_mut.result.now c.pop_known.new.self c.pop_known.result c.in-Back.entry c.lower.ensures.notes inside c.index_mut.ensures.value c.pop_known.ensures.received.0 c.in-Back.is;
-      balance = balance_then c.lower.new.self.notes.items c.args.self.now.notes.items c.args.w c.index_mut.result.now c.pop_known.new.self c.pop_known.result c.in-Back.entry c.lower.ensures.notes inside c.index_mut.ensures.value c.pop_known.ensures.received.0 c.in-Back.is g.L.Link.identity c.args.self.now.core.out c.lower.new.self.core.out c.requires.number (out_at_back c.args.self.now.notes.items c.args.w _ _ c.index_mut.result.now c.pop_known.result _ c.in-Back.entry (omega (arith, c.requires.number, c.args.self.now.workers.1)) c.index_mut.ensures.value c.pop_known.ensures.received.1 c.in-Back.is c.requires.may) c.lower.ensures.out;
-      ended = c.lower.ensures.ended;
-      core_waiting = c.lower.ensures.core_waiting;
-      order = c.lower.ensures.order;
-      paused = c.lower.ensures.paused;
-      stopping = c.lower.ensures.stopping;
-      parcels = c.lower.ensures.parcels;
-      waiting = c.lower.ensures.waiting;
-      stopped = c.lower.ensures.stays.stopped;
-      forced = c.lower.ensures.stays.forced;
-      stop = c.lower.ensures.stays.stop;
-      shutdown_timeout = c.lower.ensures.stays.shutdown_timeout;
-      serial = c.lower.ensures.stays.serial;
-      places = c.lower.ensures.stays.places;
-      failed = c.lower.ensures.stays.failed;
-      limit = c.lower.ensures.stays.limit;
-      retry_limit = c.lower.ensures.stays.retry_limit;
-      lacks_room = c.lower.ensures.stays.lacks_room;
-      first = c.lower.ensures.stays.first;
-      failures = c.lower.ensures.failures;
-      logs = c.lower.ensures.lowers.logs;
-      returns = c.lower.ensures.lowers.returns;
-      backs = λ v. backs_more _ _ c.args.w _ _ _ c.lower.ensures.notes inside is more g.L.Link.identity v ∙ count_as_one _ _ _ _ (ap (of_note g.L.Link.identity (λ x. 1)) c.in-Back.is) (c.lower.ensures.lowers.backs v);
-      ready = λ all. ap (λ v. list_all (λ r. r) v.items) c.lower.ensures.stays.ready ∙ all;
-      marks = λ told v on. has_still _ _ c.args.w _ _ _ c.lower.ensures.notes inside is more Ready v (told v (ap (λ r. slice_index_or r.items v false) (sym c.lower.ensures.stays.ready) ∙ on));
-      early = λ none. absurd (omega (arith, c.lower.ensures.some, c.lower.ensures.stays.serial, none));
-      receives = λ v. let e = received_more _ _ c.args.w _ _ _ c.lower.ensures.notes inside is more v in record { more = e.0; came = e.1 };
-    }
+    let may = may_back c.args.self.now.notes.items c.args.w _ _ c.index_mut.result.now c.pop_known.result _ c.in-Back.entry inside c.index_mut.ensures.value c.pop_known.ensures.received.1 c.in-Back.is c.requires.may in
+    let l = c.lower.ensures in
+    let s = l.stays in
+    handed_back g.L.Link.identity g.Do.Done.taken g.Do.Done.count g.Do.Done.served c.args.self.now c.lower.new.self c.args.w c.index_mut.result.now c.pop_known.new.self l.notes inside c.index_mut.ensures.value c.pop_known.ensures.ring
+    (record { parcels = l.parcels; waiting = l.waiting; ready = s.ready; stopped = s.stopped; forced = s.forced; stop = s.stop; serial = s.serial; places = s.places; failed = s.failed; first = s.first; limit = s.limit; retry_limit = s.retry_limit; shutdown_timeout = s.shutdown_timeout; lacks_room = s.lacks_room })
+    c.pop_known.result c.in-Back.entry c.pop_known.ensures.received.0 c.in-Back.is c.args.done.now _ c.take.ensures.entry (λ stopped. ap (λ o. is_some o) l.stopping ∙ may.1 stopped) c.requires.number may.0 l.out
+    (record { ended = l.ended; failures = l.failures; waiting = l.core_waiting; order = l.order; paused = l.paused; stopping = l.stopping }) l.some l.lowers.logs l.lowers.returns l.lowers.backs
 
 pub returns-in-Ready-clause-hands : goal.returns-in-Ready-clause-hands
 returns-in-Ready-clause-hands g c =

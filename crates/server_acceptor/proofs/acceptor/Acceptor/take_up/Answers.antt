@@ -2,7 +2,6 @@ use Rattle.std.proofs.Common.{◌+◌, ◌<◌, ◌^◌, sym, ◌∙◌, ap, ari
 use Rattle.std.proofs.Math.ListN.{length-set}
 use Rattle.server_core.specs.Core.{Core}
 use Rattle.server_acceptor.proofs.AskSteps.{all_below_set, got_logs, opened_below, patient_got, read_at, ruled_kept, sum_raised}
-use Rattle.server_acceptor.proofs.HandSteps.{in_turn_kept}
 use Rattle.server_acceptor.proofs.acceptor.Acceptor.take_up.Goals as goal
 
 pub returns-clause-logs : goal.returns-clause-logs
@@ -23,9 +22,6 @@ invariant_of-self-clause-small g c =
     let inside : c.args.t < length c.args.self.now.places.items = omega (arith, opened_below c.args.self.now.core c.args.t c.requires.opened, c.args.self.now.listeners.0) in
     let is = read_at c.args.self.now.places.items c.args.t c.index-place.result.now inside c.index-place.ensures in
     all_below_set c.args.self.now.places.items c.args.t (c.index-place.result.now + 1) (2 ^ 48) (omega (arith, is, c.requires.small)) c.args.self.now.small
-
-pub invariant_of-self-clause-in_turn : goal.invariant_of-self-clause-in_turn
-invariant_of-self-clause-in_turn g c = in_turn_kept c.args.self.now.core c.log.new.core (ap (λ (s : Core). s.order) c.log.ensures.core) c.log.ensures.workers c.args.self.now.in_turn
 
 pub invariant_of-self-clause-rule : goal.invariant_of-self-clause-rule
 invariant_of-self-clause-rule g c = ruled_kept c.args.self.now.core c.log.new.core _ (ap (λ (s : Core). s.order) c.log.ensures.core) (ap (λ (s : Core). s.free) c.log.ensures.core) (ap (λ (s : Core). s.out) c.log.ensures.core) c.args.self.now.rule

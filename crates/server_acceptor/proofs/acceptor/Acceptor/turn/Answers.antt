@@ -9,7 +9,7 @@ use Rattle.server_acceptor.proofs.TurnTakes.{due_at, first_failed, first_many, f
 use Rattle.server_acceptor.proofs.acceptor.Acceptor.turn.Goals as goal
 
 pub make_turn-step-requires-clause-as_many : goal.make_turn-step-requires-clause-as_many
-make_turn-step-requires-clause-as_many g c = c.requires.as_many ∙ sym (obeys_proceeds g.Li.Listener.given g.Li.Listener.left g.Li.Listener.rest g.L.Link.identity g.Li.Listener.ended g.Li.Listener.faults g.Do.Done.taken g.Do.Done.count g.Do.Done.served c.args.listeners.now.items _ c.take_commands-idle.new.self c.args.done.now c.take_commands-idle.new.done c.take_commands-idle.ensures.takes.commands c.now-now.result (g.met.Do.Done.small c.args.done.now) c.take_commands-idle.ensures.takes.obeys).does.listeners
+make_turn-step-requires-clause-as_many g c = c.requires.as_many ∙ sym (obeys_proceeds g.Li.Listener.given g.Li.Listener.left g.Li.Listener.rest g.L.Link.identity g.Li.Listener.ended g.Li.Listener.faults g.Do.Done.taken g.Do.Done.count g.Do.Done.served c.args.listeners.now.items _ c.take_commands-idle.new.self c.args.done.now c.take_commands-idle.new.done c.take_commands-idle.ensures.takes.commands c.now-now.result (g.met.Do.Done.small c.args.done.now) c.take_commands-idle.ensures.takes.obeys).does.acts.listeners
 
 pub make_turn-step-requires-clause-given : goal.make_turn-step-requires-clause-given
 make_turn-step-requires-clause-given g c = given_kept g.Li.Listener.given g.Li.Listener.waits g.Li.Listener.skips c.args.listeners.now.items c.args.self.now c.take_commands-idle.new.self (ap (λ v. v.items) c.take_commands-idle.ensures.takes.obeys.beside.places) c.requires.given
@@ -21,7 +21,7 @@ pub make_turn-step-requires-clause-none_refused : goal.make_turn-step-requires-c
 make_turn-step-requires-clause-none_refused g c = first_refused g.Do.Done.taken g.Do.Done.count g.Do.Done.served g.Co.Commands.given g.Co.Commands.stops g.Co.Commands.idles g.Co.Commands.ended _ c.take_commands-idle.new.self c.args.done.now c.take_commands-idle.new.done c.args.commands.now c.take_commands-idle.new.commands c.now-now.result c.take_commands-idle.result c.take_commands-idle.ensures.takes c.clear.ensures.items
 
 pub returns-in-WorkerEnded-clause-does : goal.returns-in-WorkerEnded-clause-does
-returns-in-WorkerEnded-clause-does g c = turn_does g.Li.Listener.given g.Li.Listener.left g.Li.Listener.rest g.L.Link.identity g.Li.Listener.ended g.Li.Listener.faults g.Do.Done.taken g.Do.Done.count g.Do.Done.served c.args.listeners.now.items c.make_turn-step.new.listeners.items c.args.done.now c.make_turn-step.new.done c.args.self.now _ c.make_turn-step.new.self _ (record { core = refl; parcels = refl; notes = refl; ready = refl; waiting = refl; serial = refl; places = refl; failed = refl; retry_limit = refl; lacks_room = refl }) c.clear.ensures.items (record { core = refl; parcels = refl; notes = refl; ready = refl; waiting = refl; serial = refl; places = refl; failed = refl; retry_limit = refl; lacks_room = refl }) refl (proceeds_trans g.Li.Listener.given g.Li.Listener.left g.Li.Listener.rest g.L.Link.identity g.Li.Listener.ended g.Li.Listener.faults g.Do.Done.taken g.Do.Done.count g.Do.Done.served c.args.listeners.now.items c.args.listeners.now.items c.make_turn-step.new.listeners.items _ c.take_commands-idle.new.self c.make_turn-step.new.self c.args.done.now c.take_commands-idle.new.done c.make_turn-step.new.done (obeys_proceeds g.Li.Listener.given g.Li.Listener.left g.Li.Listener.rest g.L.Link.identity g.Li.Listener.ended g.Li.Listener.faults g.Do.Done.taken g.Do.Done.count g.Do.Done.served c.args.listeners.now.items _ c.take_commands-idle.new.self c.args.done.now c.take_commands-idle.new.done c.take_commands-idle.ensures.takes.commands c.now-now.result (g.met.Do.Done.small c.args.done.now) c.take_commands-idle.ensures.takes.obeys) c.make_turn-step.ensures.proceeds)
+returns-in-WorkerEnded-clause-does g c = turn_does g.Li.Listener.given g.Li.Listener.left g.Li.Listener.rest g.L.Link.identity g.Li.Listener.ended g.Li.Listener.faults g.Do.Done.taken g.Do.Done.count g.Do.Done.served c.args.listeners.now.items c.make_turn-step.new.listeners.items c.args.done.now c.make_turn-step.new.done c.args.self.now _ c.make_turn-step.new.self _ (record { core = refl; parcels = refl; notes = refl; ready = refl; waiting = refl; serial = refl; places = refl; failed = refl; limit = refl; retry_limit = refl; lacks_room = refl }) c.clear.ensures.items (record { core = refl; parcels = refl; notes = refl; ready = refl; waiting = refl; serial = refl; places = refl; failed = refl; limit = refl; retry_limit = refl; lacks_room = refl }) refl (proceeds_trans g.Li.Listener.given g.Li.Listener.left g.Li.Listener.rest g.L.Link.identity g.Li.Listener.ended g.Li.Listener.faults g.Do.Done.taken g.Do.Done.count g.Do.Done.served c.args.listeners.now.items c.args.listeners.now.items c.make_turn-step.new.listeners.items _ c.take_commands-idle.new.self c.make_turn-step.new.self c.args.done.now c.take_commands-idle.new.done c.make_turn-step.new.done (obeys_proceeds g.Li.Listener.given g.Li.Listener.left g.Li.Listener.rest g.L.Link.identity g.Li.Listener.ended g.Li.Listener.faults g.Do.Done.taken g.Do.Done.count g.Do.Done.served c.args.listeners.now.items _ c.take_commands-idle.new.self c.args.done.now c.take_commands-idle.new.done c.take_commands-idle.ensures.takes.commands c.now-now.result (g.met.Do.Done.small c.args.done.now) c.take_commands-idle.ensures.takes.obeys) c.make_turn-step.ensures.proceeds)
 
 pub returns-in-WorkerEnded-clause-takes : goal.returns-in-WorkerEnded-clause-takes
 returns-in-WorkerEnded-clause-takes g c = turn_takes g.Do.Done.taken g.Do.Done.count g.Do.Done.served g.Co.Commands.given g.Co.Commands.stops g.Co.Commands.idles g.Co.Commands.ended _ c.take_commands-idle.new.self c.args.done.now c.take_commands-idle.new.done c.args.commands.now c.take_commands-idle.new.commands c.now-now.result c.take_commands-idle.result c.take_commands-idle.ensures.takes c.clear.ensures.items g.Li.Listener.given g.Li.Listener.left g.Li.Listener.rest g.L.Link.identity g.Li.Listener.ended g.Li.Listener.faults c.args.listeners.now.items c.make_turn-step.new.listeners.items c.make_turn-step.new.self c.make_turn-step.new.done c.make_turn-step.ensures.proceeds c.make_turn-step.ensures.leaves (λ busy. ap (λ v. v.items) (c.make_turn-step.ensures.unasked busy))
@@ -39,7 +39,7 @@ pub returns-in-WorkerEnded-clause-in_turn : goal.returns-in-WorkerEnded-clause-i
 returns-in-WorkerEnded-clause-in_turn g c = in_turn_same _ _ _ _ _ c.args.self.now c.args.self.now c.make_turn-step.new.self _ c.now-now.result _ c.now-now.ensures.answer refl refl refl refl (in_turn_from g.Li.Listener.given g.Li.Listener.waits g.Li.Listener.skips c.args.listeners.now.items c.make_turn-step.new.listeners.items c.args.self.now c.take_commands-idle.new.self c.make_turn-step.new.self c.now-now.result c.take_commands-idle.ensures.takes.obeys.beside.first (λ t. ap (λ v. slice_index_or v.items t None) c.take_commands-idle.ensures.takes.obeys.beside.failed) c.make_turn-step.ensures.in_turn)
 
 pub returns-in-WorkerEnded-clause-first : goal.returns-in-WorkerEnded-clause-first
-returns-in-WorkerEnded-clause-first g c = ap₂ (λ f n. (f + 1) % n) (c.make_turn-step.ensures.first ∙ c.take_commands-idle.ensures.takes.obeys.beside.first) (omega (arith, c.len.ensures, c.make_turn-step.new.self.listeners.0, (proceeds_trans g.Li.Listener.given g.Li.Listener.left g.Li.Listener.rest g.L.Link.identity g.Li.Listener.ended g.Li.Listener.faults g.Do.Done.taken g.Do.Done.count g.Do.Done.served c.args.listeners.now.items c.args.listeners.now.items c.make_turn-step.new.listeners.items _ c.take_commands-idle.new.self c.make_turn-step.new.self c.args.done.now c.take_commands-idle.new.done c.make_turn-step.new.done (obeys_proceeds g.Li.Listener.given g.Li.Listener.left g.Li.Listener.rest g.L.Link.identity g.Li.Listener.ended g.Li.Listener.faults g.Do.Done.taken g.Do.Done.count g.Do.Done.served c.args.listeners.now.items _ c.take_commands-idle.new.self c.args.done.now c.take_commands-idle.new.done c.take_commands-idle.ensures.takes.commands c.now-now.result (g.met.Do.Done.small c.args.done.now) c.take_commands-idle.ensures.takes.obeys) c.make_turn-step.ensures.proceeds).does.listeners))
+returns-in-WorkerEnded-clause-first g c = ap₂ (λ f n. (f + 1) % n) (c.make_turn-step.ensures.first ∙ c.take_commands-idle.ensures.takes.obeys.beside.first) (omega (arith, c.len.ensures, c.make_turn-step.new.self.listeners.0, (proceeds_trans g.Li.Listener.given g.Li.Listener.left g.Li.Listener.rest g.L.Link.identity g.Li.Listener.ended g.Li.Listener.faults g.Do.Done.taken g.Do.Done.count g.Do.Done.served c.args.listeners.now.items c.args.listeners.now.items c.make_turn-step.new.listeners.items _ c.take_commands-idle.new.self c.make_turn-step.new.self c.args.done.now c.take_commands-idle.new.done c.make_turn-step.new.done (obeys_proceeds g.Li.Listener.given g.Li.Listener.left g.Li.Listener.rest g.L.Link.identity g.Li.Listener.ended g.Li.Listener.faults g.Do.Done.taken g.Do.Done.count g.Do.Done.served c.args.listeners.now.items _ c.take_commands-idle.new.self c.args.done.now c.take_commands-idle.new.done c.take_commands-idle.ensures.takes.commands c.now-now.result (g.met.Do.Done.small c.args.done.now) c.take_commands-idle.ensures.takes.obeys) c.make_turn-step.ensures.proceeds).does.acts.listeners))
 
 pub returns-in-WorkerEnded-clause-worker_ended : goal.returns-in-WorkerEnded-clause-worker_ended
 returns-in-WorkerEnded-clause-worker_ended g c w is =
@@ -55,7 +55,7 @@ returns-clause-spare g c = subst (λ k. sum k.out + held k.waiting ≤ g.Do.Done
 pub returns-clause-does : goal.returns-clause-does
 returns-clause-does g c =
     turn_does_stops g.Li.Listener.given g.Li.Listener.left g.Li.Listener.rest g.L.Link.identity g.Li.Listener.ended g.Li.Listener.faults g.Do.Done.taken g.Do.Done.count g.Do.Done.served c.args.listeners.now.items c.make_turn-step.new.listeners.items c.args.done.now c.make_turn-step.new.done c.args.self.now _ c.come_to.new.self c.come_to.ensures.only (c.come_to.ensures.proceeds c.make_turn-step.new.listeners.items c.make_turn-step.new.done)
-    (turn_does g.Li.Listener.given g.Li.Listener.left g.Li.Listener.rest g.L.Link.identity g.Li.Listener.ended g.Li.Listener.faults g.Do.Done.taken g.Do.Done.count g.Do.Done.served c.args.listeners.now.items c.make_turn-step.new.listeners.items c.args.done.now c.make_turn-step.new.done c.args.self.now _ c.make_turn-step.new.self _ (record { core = refl; parcels = refl; notes = refl; ready = refl; waiting = refl; serial = refl; places = refl; failed = refl; retry_limit = refl; lacks_room = refl }) c.clear.ensures.items (record { core = refl; parcels = refl; notes = refl; ready = refl; waiting = refl; serial = refl; places = refl; failed = refl; retry_limit = refl; lacks_room = refl }) refl (proceeds_trans g.Li.Listener.given g.Li.Listener.left g.Li.Listener.rest g.L.Link.identity g.Li.Listener.ended g.Li.Listener.faults g.Do.Done.taken g.Do.Done.count g.Do.Done.served c.args.listeners.now.items c.args.listeners.now.items c.make_turn-step.new.listeners.items _ c.take_commands-idle.new.self c.make_turn-step.new.self c.args.done.now c.take_commands-idle.new.done c.make_turn-step.new.done (obeys_proceeds g.Li.Listener.given g.Li.Listener.left g.Li.Listener.rest g.L.Link.identity g.Li.Listener.ended g.Li.Listener.faults g.Do.Done.taken g.Do.Done.count g.Do.Done.served c.args.listeners.now.items _ c.take_commands-idle.new.self c.args.done.now c.take_commands-idle.new.done c.take_commands-idle.ensures.takes.commands c.now-now.result (g.met.Do.Done.small c.args.done.now) c.take_commands-idle.ensures.takes.obeys) c.make_turn-step.ensures.proceeds))
+    (turn_does g.Li.Listener.given g.Li.Listener.left g.Li.Listener.rest g.L.Link.identity g.Li.Listener.ended g.Li.Listener.faults g.Do.Done.taken g.Do.Done.count g.Do.Done.served c.args.listeners.now.items c.make_turn-step.new.listeners.items c.args.done.now c.make_turn-step.new.done c.args.self.now _ c.make_turn-step.new.self _ (record { core = refl; parcels = refl; notes = refl; ready = refl; waiting = refl; serial = refl; places = refl; failed = refl; limit = refl; retry_limit = refl; lacks_room = refl }) c.clear.ensures.items (record { core = refl; parcels = refl; notes = refl; ready = refl; waiting = refl; serial = refl; places = refl; failed = refl; limit = refl; retry_limit = refl; lacks_room = refl }) refl (proceeds_trans g.Li.Listener.given g.Li.Listener.left g.Li.Listener.rest g.L.Link.identity g.Li.Listener.ended g.Li.Listener.faults g.Do.Done.taken g.Do.Done.count g.Do.Done.served c.args.listeners.now.items c.args.listeners.now.items c.make_turn-step.new.listeners.items _ c.take_commands-idle.new.self c.make_turn-step.new.self c.args.done.now c.take_commands-idle.new.done c.make_turn-step.new.done (obeys_proceeds g.Li.Listener.given g.Li.Listener.left g.Li.Listener.rest g.L.Link.identity g.Li.Listener.ended g.Li.Listener.faults g.Do.Done.taken g.Do.Done.count g.Do.Done.served c.args.listeners.now.items _ c.take_commands-idle.new.self c.args.done.now c.take_commands-idle.new.done c.take_commands-idle.ensures.takes.commands c.now-now.result (g.met.Do.Done.small c.args.done.now) c.take_commands-idle.ensures.takes.obeys) c.make_turn-step.ensures.proceeds))
 
 pub returns-clause-once : goal.returns-clause-once
 returns-clause-once g c = subst (λ v. OnceEach v.items) (sym c.come_to.ensures.only.events) c.make_turn-step.ensures.once
@@ -83,7 +83,7 @@ returns-clause-in_turn g c =
 pub returns-clause-first : goal.returns-clause-first
 returns-clause-first g c =
     c.come_to.ensures.only.first ∙ ap₂ (λ f n. (f + 1) % n) (c.make_turn-step.ensures.first ∙ c.take_commands-idle.ensures.takes.obeys.beside.first)
-    (omega (arith, c.len.ensures, c.make_turn-step.new.self.listeners.0, (proceeds_trans g.Li.Listener.given g.Li.Listener.left g.Li.Listener.rest g.L.Link.identity g.Li.Listener.ended g.Li.Listener.faults g.Do.Done.taken g.Do.Done.count g.Do.Done.served c.args.listeners.now.items c.args.listeners.now.items c.make_turn-step.new.listeners.items _ c.take_commands-idle.new.self c.make_turn-step.new.self c.args.done.now c.take_commands-idle.new.done c.make_turn-step.new.done (obeys_proceeds g.Li.Listener.given g.Li.Listener.left g.Li.Listener.rest g.L.Link.identity g.Li.Listener.ended g.Li.Listener.faults g.Do.Done.taken g.Do.Done.count g.Do.Done.served c.args.listeners.now.items _ c.take_commands-idle.new.self c.args.done.now c.take_commands-idle.new.done c.take_commands-idle.ensures.takes.commands c.now-now.result (g.met.Do.Done.small c.args.done.now) c.take_commands-idle.ensures.takes.obeys) c.make_turn-step.ensures.proceeds).does.listeners))
+    (omega (arith, c.len.ensures, c.make_turn-step.new.self.listeners.0, (proceeds_trans g.Li.Listener.given g.Li.Listener.left g.Li.Listener.rest g.L.Link.identity g.Li.Listener.ended g.Li.Listener.faults g.Do.Done.taken g.Do.Done.count g.Do.Done.served c.args.listeners.now.items c.args.listeners.now.items c.make_turn-step.new.listeners.items _ c.take_commands-idle.new.self c.make_turn-step.new.self c.args.done.now c.take_commands-idle.new.done c.make_turn-step.new.done (obeys_proceeds g.Li.Listener.given g.Li.Listener.left g.Li.Listener.rest g.L.Link.identity g.Li.Listener.ended g.Li.Listener.faults g.Do.Done.taken g.Do.Done.count g.Do.Done.served c.args.listeners.now.items _ c.take_commands-idle.new.self c.args.done.now c.take_commands-idle.new.done c.take_commands-idle.ensures.takes.commands c.now-now.result (g.met.Do.Done.small c.args.done.now) c.take_commands-idle.ensures.takes.obeys) c.make_turn-step.ensures.proceeds).does.acts.listeners))
 
 pub returns-clause-going : goal.returns-clause-going
 returns-clause-going g c is =
@@ -123,6 +123,6 @@ invariant_of-self-2 g c =
       stopped_sent = a.stopped_sent;
       forced_sent = a.forced_sent;
       patient = a.patient;
-      in_turn = a.in_turn;
       rule = a.rule;
+      some_limit = a.some_limit;
     }

@@ -1,8 +1,7 @@
 use Rattle.std.proofs.Common.{◌^◌, ◌<◌, ℕ, sym, ◌∙◌, ap, subst}
 use Rattle.std.specs.Prelude.{slice_index_or, sum}
 use Rattle.server_core.specs.Core.{Core}
-use Rattle.server_acceptor.proofs.HandSteps.{AreInTurn}
-use Rattle.server_acceptor.proofs.NewSteps.{new_in_turn, new_patient, new_ruled, new_small, new_sum}
+use Rattle.server_acceptor.proofs.NewSteps.{new_patient, new_ruled, new_small, new_sum}
 use Rattle.server_acceptor.proofs.PlaceSteps.{IsPatient, IsRuled}
 use Rattle.server_acceptor.proofs.Sendings.{are_sent_none}
 use Rattle.server_jobs.specs.Parcels.{is_force, is_stop}
@@ -16,9 +15,6 @@ invariant_of-result-clause-placed g c = new_sum c.args.listeners ∙ ap (λ xs. 
 
 pub invariant_of-result-clause-patient : goal.invariant_of-result-clause-patient
 invariant_of-result-clause-patient g c = subst (λ (s : Core). IsPatient s c.args.retry_limit) (sym c.new-core.ensures.value) (new_patient c.len.result c.args.listeners c.args.retry_limit c.requires.some_failures)
-
-pub invariant_of-result-clause-in_turn : goal.invariant_of-result-clause-in_turn
-invariant_of-result-clause-in_turn g c = subst (λ (s : Core). AreInTurn s) (sym c.new-core.ensures.value) (new_in_turn _ c.args.listeners)
 
 pub invariant_of-result-clause-rule : goal.invariant_of-result-clause-rule
 invariant_of-result-clause-rule g c = subst (λ (s : Core). IsRuled s c.args.limit) (sym c.new-core.ensures.value) (new_ruled _ c.args.listeners c.args.limit c.requires.some_connections)

@@ -12,5 +12,5 @@ returns-clause-once g c =
       parcels = a.new.producer;
       notes = b.new.self;
       handed = record out { parcels = a.new.self; notes = b.new.producer };
-    }) (rw c.into_handed-handed.ensures (line.accounts _ c.end.ensures)) line.unreceived line.unsent
+    }) (rw c.into_handed-handed.ensures (line.accounts _ c.end.ensures)) line.balanced
     a.ensures.looked.1 a.ensures.fifo b.ensures.producer.1 b.ensures.fifo refl refl

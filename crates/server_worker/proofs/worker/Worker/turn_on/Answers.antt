@@ -1,7 +1,7 @@
-use Rattle.std.proofs.Common.{◌≡◌, ◌<◌, ◌+◌, length, ap, sym, ◌∙◌, arith, subst, refl, rules}
+use Rattle.std.proofs.Common.{◌≡◌, ◌<◌, length, ap, sym, ◌∙◌, arith, subst}
 use Rattle.server_worker.specs.Polled.{Admits}
 use Rattle.server_worker.proofs.AdmitSteps.{admits_same}
-use Rattle.server_worker.proofs.AskSteps.{checks_from_made, checks_unmade, is_unset}
+use Rattle.server_worker.proofs.AskSteps.{checks_unmade, is_unset}
 use Rattle.server_worker.proofs.ServeSteps.{turn_accounts, turn_no_ready, turn_polls, turn_stops}
 use Rattle.server_worker.proofs.worker.Worker.turn_on.Goals as goal
 

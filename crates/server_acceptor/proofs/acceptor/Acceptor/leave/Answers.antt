@@ -1,0 +1,29 @@
+use Rattle.std.proofs.Common.{[], ◌∷◌, refl, ap, rules}
+use Rattle.server_core.specs.Core.{Core}
+use Rattle.server_core.specs.declared.event.Event.TheVariants.{Faulted}
+use Rattle.server_acceptor.proofs.DoesSteps.{acts_none}
+use Rattle.server_acceptor.proofs.PartSteps.{faulted_of_join, left_order, off_still, parted_acts, ruled_left}
+use Rattle.server_acceptor.proofs.PlaceSteps.{patient_kept}
+use Rattle.server_acceptor.proofs.acceptor.Acceptor.leave.Goals as goal
+
+pub returns-then-not-allows-clause-acts : goal.returns-then-not-allows-clause-acts
+returns-then-not-allows-clause-acts g c ls d = ([], acts_none g.Li.Listener.given g.Li.Listener.left g.Li.Listener.rest g.L.Link.identity g.Li.Listener.ended g.Li.Listener.faults g.Do.Done.taken g.Do.Done.count g.Do.Done.served ls c.args.self.now d (g.met.Do.Done.small d))
+
+pub returns-clause-acts : goal.returns-clause-acts
+returns-clause-acts g c ls d = (
+  Faulted c.args.w ∷ [],
+  parted_acts g.Li.Listener.given g.Li.Listener.left g.Li.Listener.rest g.L.Link.identity g.Li.Listener.ended g.Li.Listener.faults g.Do.Done.taken g.Do.Done.count g.Do.Done.served ls c.args.self.now _ (Faulted c.args.w) (search rules) (faulted_of_join c.args.self.now.core c.args.w) c.step.ensures.value
+      (record { parcels = refl; notes = refl; ready = refl; stopped = refl; forced = refl; serial = refl; places = refl; failed = refl; first = refl; limit = refl; retry_limit = refl; shutdown_timeout = refl; lacks_room = refl }) d (g.met.Do.Done.small d) refl,
+)
+
+pub returns-clause-left : goal.returns-clause-left
+returns-clause-left g c = left_order c.args.self.now.core c.step.new.self c.args.w c.args.self.now.kept (search rules) c.step.ensures.value
+
+pub invariant_of-self-clause-rule : goal.invariant_of-self-clause-rule
+invariant_of-self-clause-rule g c = ruled_left c.args.self.now.core c.step.new.self _ c.args.w c.args.self.now.kept (search rules) c.args.self.now.rule c.step.ensures.value
+
+pub invariant_of-self-clause-patient : goal.invariant_of-self-clause-patient
+invariant_of-self-clause-patient g c = patient_kept c.args.self.now.core c.step.new.self _ (ap (λ (s : Core). s.ended) c.step.ensures.value) (ap (λ (s : Core). s.failures) c.step.ensures.value) c.args.self.now.patient
+
+pub returns-clause-others : goal.returns-clause-others
+returns-clause-others g c v off = off_still c.args.self.now.core c.step.new.self c.args.w v (search rules) c.step.ensures.value off
