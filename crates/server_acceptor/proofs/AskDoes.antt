@@ -32,7 +32,7 @@ use Rattle.server_acceptor.specs.Notes.{AreLeft, count_back}
 use Rattle.server_acceptor.specs.Listening.{AsksAt}
 use Rattle.server_acceptor.specs.Logging.{AllOfUse, Logs}
 use Rattle.server_acceptor.specs.Rings.{count_put, ring_in, ring_out}
-use Rattle.server_acceptor.specs.Sending.{IsForced}
+use Rattle.server_acceptor.specs.Sending.{IsForced, IsStopped}
 use Rattle.server_acceptor.specs.declared.acceptor.Acceptor.{Acceptor}
 use Rattle.server_acceptor.specs.declared.asked.Asked.{Asked}
 use Rattle.server_acceptor.specs.declared.asked.Asked.TheVariants.{Got, NotYet, Skipped, Failed, Ended}
@@ -294,6 +294,7 @@ module _ {Li L : Type 0} (given : Li → ℕ) (left : Li → Option (List L)) (r
           stop = only.stop;
           timeout = only.shutdown_timeout;
           forced = λ w is. subst (λ v. IsForced v.items w) only.parcels is;
+          stopped = λ w is. subst (λ v. IsStopped v.items w) only.parcels is;
         };
         first = only.first;
         listeners = λ v out. asks_at.others v (not_inside t v out);

@@ -8,13 +8,13 @@ use Rattle.server_run.specs.declared.entry.Entry.{Entry}
 use Rattle.server_acceptor.specs.Accepting.{LeavesStops, is_command}
 use Rattle.server_acceptor.specs.Asking.{MakesRoom}
 use Rattle.server_acceptor.specs.Handing.{Hands}
-use Rattle.server_acceptor.specs.Sending.{IsForced}
+use Rattle.server_acceptor.specs.Sending.{IsForced, IsStopped}
 use Rattle.server_acceptor.specs.declared.acceptor.Acceptor.{Acceptor}
 use Rattle.server_acceptor.proofs.HandsDoes.{count_returns}
 
 module _ {L : Type 0} where
   pub leaves_none : (a : Acceptor L) → LeavesStops a a
-  leaves_none a = record { commands = refl; paused = refl; stopping = refl; stop = refl; timeout = refl; forced = λ w is. is }
+  leaves_none a = record { commands = refl; paused = refl; stopping = refl; stop = refl; timeout = refl; forced = λ w is. is; stopped = λ w is. is }
 
   pub leaves_trans : (a b c : Acceptor L) → LeavesStops a b → LeavesStops b c → LeavesStops a c
   leaves_trans a b c p q = record {
@@ -24,6 +24,7 @@ module _ {L : Type 0} where
     stop = q.stop ∙ p.stop;
     timeout = q.timeout ∙ p.timeout;
     forced = λ w is. p.forced w (q.forced w is);
+    stopped = λ w is. p.stopped w (q.stopped w is);
   }
 
   pub leaves_room : (a b : Acceptor L) → MakesRoom a b → LeavesStops a b
@@ -34,6 +35,7 @@ module _ {L : Type 0} where
     stop = s.stop;
     timeout = s.shutdown_timeout;
     forced = λ w is. subst (λ v. IsForced v.items w) s.parcels is;
+    stopped = λ w is. subst (λ v. IsStopped v.items w) s.parcels is;
   }
 
   pub leaves_handed : {D : Type 0} (identity : L → Identity) (taken : D → Option (List (Entry L))) (count served : D → ℕ) (a b : Acceptor L) (d e : D) → Hands identity taken count served a b d e → LeavesStops a b
@@ -44,4 +46,5 @@ module _ {L : Type 0} where
     stop = h.stop;
     timeout = h.shutdown_timeout;
     forced = λ w is. subst (λ v. IsForced v.items w) h.parcels is;
+    stopped = λ w is. subst (λ v. IsStopped v.items w) h.parcels is;
   }

@@ -40,8 +40,8 @@ use Rattle.server_acceptor.proofs.CarrySteps.{carries_placed, count_kept, count_
 use Rattle.server_acceptor.proofs.DoesSteps.{untouched_none}
 use Rattle.server_acceptor.proofs.HandsDoes.{none_failed, tells_same}
 use Rattle.server_acceptor.proofs.LeaveSteps.{leaves_handed, leaves_trans}
-use Rattle.server_acceptor.proofs.Sendings.{forced_kept, forced_put}
-use Rattle.server_acceptor.specs.Sending.{IsForced}
+use Rattle.server_acceptor.proofs.Sendings.{forced_kept, forced_put, stopped_kept, stopped_put}
+use Rattle.server_acceptor.specs.Sending.{IsForced, IsStopped}
 use Rattle.server_acceptor.proofs.LogSteps.{after_append, stops_later}
 use Rattle.server_acceptor.proofs.MarkSteps.{marked_none, marks_without, row_none}
 use Rattle.server_acceptor.proofs.NoteSteps.{refused_append, short_still}
@@ -103,6 +103,7 @@ record Placing {L : Type 0} (identity : L → Identity) (a b : Acceptor L) (even
   commands : count_by is_command events ≡ 0
   paused : b.core.paused ≡ a.core.paused
   forced : (w : ℕ) → IsForced b.parcels.items w → IsForced a.parcels.items w
+  stopped : (w : ℕ) → IsStopped b.parcels.items w → IsStopped a.parcels.items w
   over : b.core.ended ≡ a.core.ended
   failures : b.core.failures ≡ a.core.failures
   stopping : b.core.stopping ≡ a.core.stopping
@@ -168,6 +169,7 @@ module _ {L : Type 0} (identity : L → Identity) (a b : Acceptor L) where
         paused = paused_after logs p.full (SentTo w p.remains ∷ []) p.refused.events (λ s. refl);
         commands = ap (count_by is_command) xs ∙ count_refusals is_command (λ v. refl) (λ v. refl) p.full (SentTo w p.remains ∷ []);
         forced = λ v is. forced_put a.parcels.items b.parcels.items w v (parcel_of p.placed) refl p.rings is;
+        stopped = λ v is. stopped_put a.parcels.items b.parcels.items w v (parcel_of p.placed) refl p.rings is;
         workers = ap (λ os. length os) p.out ∙ length-set a.core.out w (slice_index a.core.out w + 1);
         rings = p.rings.rings;
       }
@@ -184,6 +186,7 @@ module _ {L : Type 0} (identity : L → Identity) (a b : Acceptor L) where
         paused = paused_after logs p.full [] p.refused.events (λ s. refl);
         commands = ap (count_by is_command) xs ∙ count_refusals is_command (λ v. refl) (λ v. refl) p.full [];
         forced = λ v is. forced_kept a.parcels.items b.parcels.items p.rings v is;
+        stopped = λ v is. stopped_kept a.parcels.items b.parcels.items p.rings v is;
         workers = ap (λ os. length os) p.out;
         rings = p.rings.rings;
       }
@@ -200,6 +203,7 @@ module _ {L : Type 0} (identity : L → Identity) (a b : Acceptor L) where
         paused = ap (λ (s : Core). s.paused) p.core;
         commands = ap (count_by is_command) xs;
         forced = λ v is. subst (λ ps. IsForced ps.items v) p.parcels is;
+        stopped = λ v is. subst (λ ps. IsStopped ps.items v) p.parcels is;
         workers = ap (λ (s : Core). length s.out) p.core;
         rings = ap (λ ps. map ring_in ps.items) p.parcels;
       }
@@ -286,6 +290,7 @@ module _ {L : Type 0} (identity : L → Identity) (a b : Acceptor L) (logs : Log
         stop = s.stop;
         timeout = s.shutdown_timeout;
         forced = k.forced;
+        stopped = k.stopped;
       }
 
   -- room for events gets no more

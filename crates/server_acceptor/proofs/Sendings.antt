@@ -11,7 +11,7 @@ use Rattle.rtrb.specs.declared.producer.Producer.{Producer}
 use Rattle.server_jobs.specs.declared.parcel.Parcel.{Parcel}
 use Rattle.server_jobs.specs.declared.parcel.Parcel.TheVariants.{Conn, Stop}
 use Rattle.server_acceptor.specs.Placing.{KeepsSent, PutsAt}
-use Rattle.server_acceptor.specs.Sending.{AreSent, IsForced, IsSent, sent_to}
+use Rattle.server_acceptor.specs.Sending.{AreSent, IsForced, IsSent, IsStopped, sent_to}
 use Rattle.server_jobs.specs.Parcels.{is_force, is_stop}
 
 length_mapped : {X Y : Type 0} (h : X → Y) (xs : List X) → length (map h xs) ≡ length xs
@@ -71,6 +71,12 @@ module _ {L A P : Type 0} (ps qs : List (Producer (Parcel L) A P)) where
 
   pub forced_put : (w v : ℕ) (item : Parcel L) → is_force item ≡ false → PutsAt ps qs w item → IsForced qs v → IsForced ps v
   forced_put = sent_before is_force
+
+  pub stopped_kept : KeepsSent ps qs → (v : ℕ) → IsStopped qs v → IsStopped ps v
+  stopped_kept = sent_back is_stop
+
+  pub stopped_put : (w v : ℕ) (item : Parcel L) → is_stop item ≡ false → PutsAt ps qs w item → IsStopped qs v → IsStopped ps v
+  stopped_put = sent_before is_stop
 
   pub forced_now : (w : ℕ) → PutsAt ps qs w (Stop false) → IsForced qs w
   forced_now w p = sent_now is_force w (Stop false) refl p

@@ -13,7 +13,7 @@ use Rattle.server_run.specs.declared.entry.Entry.{Entry}
 use Rattle.server_acceptor.specs.Accepting.{LeavesStops, Proceeds, is_command, is_failed, is_got, refused}
 use Rattle.server_acceptor.specs.Acceptors.{core_of, events_of, parcels_of}
 use Rattle.server_acceptor.specs.Commanding.{KeepsStop, TakesCommands, TakesFirst, events_for}
-use Rattle.server_acceptor.specs.Sending.{IsForced}
+use Rattle.server_acceptor.specs.Sending.{IsForced, IsStopped}
 use Rattle.server_acceptor.specs.Stopping.{ForcesAll, IsDue}
 use Rattle.server_acceptor.specs.declared.acceptor.Acceptor.{Acceptor}
 use Rattle.server_acceptor.specs.declared.stop.Stop.{Stop as FirstStop}
@@ -62,6 +62,9 @@ stop_kept first between last now told k same time = subst (λ n. KeepsStop first
 
 pub forced_from : {L : Type 0} (a b c : Acceptor L) (w : ℕ) → b.parcels ≡ a.parcels → LeavesStops b c → IsForced (parcels_of c) w → IsForced (parcels_of a) w
 forced_from a b c w same leaves is = subst (λ v. IsForced v.items w) same (leaves.forced w is)
+
+pub stopped_from : {L : Type 0} (a b c : Acceptor L) (w : ℕ) → b.parcels ≡ a.parcels → LeavesStops b c → IsStopped (parcels_of c) w → IsStopped (parcels_of a) w
+stopped_from a b c w same leaves is = subst (λ v. IsStopped v.items w) same (leaves.stopped w is)
 
 pub due_at : {L : Type 0} (a : Acceptor L) (now told : ℕ) → told ≡ now → IsDue a now → IsDue a told
 due_at a now told time is = subst (λ n. IsDue a n) (sym time) is

@@ -25,7 +25,7 @@ use Rattle.server_acceptor.specs.Carrying.{Carries}
 use Rattle.server_acceptor.specs.Logging.{AllOfUse}
 use Rattle.server_acceptor.specs.Notes.{AreLeft, count_back}
 use Rattle.server_acceptor.specs.Rings.{KeepsRings, count_put}
-use Rattle.server_acceptor.specs.Sending.{IsForced, sent_to}
+use Rattle.server_acceptor.specs.Sending.{IsForced, IsStopped, sent_to}
 use Rattle.server_acceptor.specs.Stopping.{AwaitsStop, LacksStop}
 use Rattle.server_acceptor.specs.Acceptors.{all_ready, core_of, events_of, failed_of, first_of, forced_of, lacks_room_of, limit_of, listeners_of, notes_of, parcels_of, ready_of, retry_limit_of, shutdown_timeout_of, stop_of, stopped_of, waiting_of, workers_of}
 use Rattle.server_acceptor.specs.declared.acceptor.Acceptor.{Acceptor}
@@ -249,6 +249,7 @@ pub record LeavesStops {L : Type 0} (a b : Acceptor L) : Type 0 where
   pub stop : stop_of b ≡ stop_of a
   pub timeout : shutdown_timeout_of b ≡ shutdown_timeout_of a
   pub forced : (w : ℕ) → IsForced (parcels_of b) w → IsForced (parcels_of a) w
+  pub stopped : (w : ℕ) → IsStopped (parcels_of b) w → IsStopped (parcels_of a) w
 
 -- Of the listeners, only those from one token on to another were asked, and each of them failed at most once.
 pub record AsksFrom {Li L : Type 0} (before after : List Li) (a b : Acceptor L) (from to : ℕ) : Type 0 where
@@ -274,6 +275,14 @@ pub record AsksInTurn {Li L : Type 0} (given waits skips : Li → ℕ) (before a
 -- nothing more is accepted
 abbrev pub IsOver : {L : Type 0} → Acceptor L → Type 0
 IsOver a = (lacks_room_of a ≡ true) ⊎ ((t : ℕ) → t < listeners_of a → slice_index_or (core_of a).ended t false ≡ true)
+
+-- nothing more is accepted, nothing waits, and no worker has a connection
+abbrev pub IsDone : {L : Type 0} → Acceptor L → Type 0
+IsDone a = IsOver a × (waiting_of a ≡ None) × (sum (core_of a).out ≡ 0)
+
+-- the workers may leave, by a stop, or since there is nothing left to do
+abbrev pub IsClosing : {L : Type 0} → Acceptor L → Type 0
+IsClosing a = (is_some (core_of a).stopping ≡ true) ⊎ IsDone a
 
 -- What the acceptor waits for when it goes on.
 pub record AcceptGoesOn {Li L Co : Type 0} (given waits skips : Li → ℕ) (idles : Co → ℕ) (before after : List Li) (source source_then : Co) (a : Acceptor L) (now : ℕ) : Type 0 where

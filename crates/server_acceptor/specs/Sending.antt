@@ -19,6 +19,10 @@ module _ {L A P : Type 0} (producers : List (Producer (Parcel L) A P)) where
   abbrev pub IsForced : ℕ → Type 0
   IsForced = IsSent is_force
 
+  -- w was sent a stop
+  abbrev pub IsStopped : ℕ → Type 0
+  IsStopped = IsSent is_stop
+
   -- each that is marked was sent such a parcel
   abbrev pub AreSent : (Parcel L → Bool) → List Bool → Type 0
   AreSent test marks = (w : ℕ) → slice_index_or marks w false ≡ true → IsSent test w

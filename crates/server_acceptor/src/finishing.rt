@@ -1,8 +1,8 @@
 //! How the acceptor comes to its end.
 ghost use Rattle.std.specs.Prelude.{◌≡◌, ◌<◌, ◌⊎◌, ℕ, List, None, Some, length, sum, is_some, true, false, slice_index_or};
-ghost use Rattle.server_acceptor.specs.Accepting.{Finishes, IsOver, Proceeds};
+ghost use Rattle.server_acceptor.specs.Accepting.{Finishes, IsClosing, IsDone, IsOver, Proceeds};
 ghost use Rattle.server_acceptor.specs.Acceptors.{core_of, parcels_of, stop_of, waiting_of};
-ghost use Rattle.server_acceptor.specs.Sending.{IsForced};
+ghost use Rattle.server_acceptor.specs.Sending.{IsForced, IsStopped};
 ghost use Rattle.server_acceptor.specs.Stopping.{AwaitsStop, ForcesAll, IsDue, LacksStop, StopsOnly};
 ghost use Rattle.server_acceptor.specs.declared.accept_turn.AcceptTurn.TheVariants.{Going, WorkerEnded, Finished as IsFinished};
 
@@ -27,6 +27,17 @@ impl<L: Link> Acceptor<L> {
         true
     }
 
+    /// Whether nothing is left to do: no more is accepted, no connection waits, and no worker has one.
+    pub fn is_done(&self) -> bool
+        ensures yes { result ≡ true → IsDone self.now }
+        ensures no { result ≡ false → IsDone self.now → ⊥ }
+    {
+        if self.waiting.is_some() || self.out > 0 {
+            return false;
+        }
+        self.lacks_room || self.all_ended()
+    }
+
     #[tactic(auto, using(crate::proofs::DoesSteps::proceeds_none))]
     // What the turn comes to without a stop.
     fn come_to_end<Li: Listener<Link = L>, Do: Done<L>>(&mut self) -> AcceptTurn
@@ -34,6 +45,7 @@ impl<L: Link> Acceptor<L> {
         ensures proceeds { (listeners : List Li) (done : Do) → Proceeds Li.given Li.left Li.rest L.identity Li.ended Li.faults Do.taken Do.count Do.served listeners listeners self.old self.new done done }
         ensures only { StopsOnly self.old self.new }
         ensures forces { (v : ℕ) → IsForced (parcels_of self.new) v → IsForced (parcels_of self.old) v }
+        ensures closes { (v : ℕ) → IsStopped (parcels_of self.new) v → IsStopped (parcels_of self.old) v ⊎ IsDone self.new }
         ensures going { result ≡ Going → IsOver self.new → waiting_of self.new ≡ None → sum (core_of self.new).out ≡ 0 → (w : ℕ) × LacksStop self.new w }
         ensures no_fault { (w : ℕ) → result ≡ WorkerEnded w → ⊥ }
         ensures finished { (e : _) → result ≡ IsFinished e → Finishes self.new e }
@@ -91,6 +103,7 @@ impl<L: Link> Acceptor<L> {
         ensures only { StopsOnly self.old self.new }
         ensures forces { (v : ℕ) → IsForced (parcels_of self.new) v → IsForced (parcels_of self.old) v ⊎ IsDue self.new now }
         ensures due { ForcesAll self.new now }
+        ensures closes { (v : ℕ) → IsStopped (parcels_of self.new) v → IsStopped (parcels_of self.old) v ⊎ IsClosing self.new }
         ensures going { result ≡ Going → (core_of self.new).stopping ≡ None → IsOver self.new → waiting_of self.new ≡ None → sum (core_of self.new).out ≡ 0 → (w : ℕ) × LacksStop self.new w }
         ensures stop { result ≡ Going → is_some (core_of self.new).stopping ≡ true → AwaitsStop self.new now }
         ensures no_fault { (w : ℕ) → result ≡ WorkerEnded w → ⊥ }

@@ -2,10 +2,10 @@
 ghost use Rattle.std.specs.Prelude.{◌≡◌, ◌⊎◌, ◌+◌, ◌≤◌, ◌<◌, ◌%◌, ℕ, [], None, Some, length, slice_index_or, true, false, is_some, count_by};
 ghost use Rattle.futures.specs.Task.{Keeps};
 ghost use Rattle.server_run.specs.Delivery.{given_at};
-ghost use Rattle.server_acceptor.specs.Accepting.{AcceptGoesOn, AsksInTurn, Does, EndsByFault, Finishes, HasHalted, HasTaken, IsAccepting, IsAskedOut, IsShort, LeavesStops, MayAsk, OnceEach, Proceeds, is_failed, refused};
+ghost use Rattle.server_acceptor.specs.Accepting.{AcceptGoesOn, AsksInTurn, Does, EndsByFault, Finishes, HasHalted, HasTaken, IsAccepting, IsClosing, IsAskedOut, IsShort, LeavesStops, MayAsk, OnceEach, Proceeds, is_failed, refused};
 ghost use Rattle.server_acceptor.specs.Acceptors.{all_ready, core_of, events_of, first_of, lacks_room_of, listeners_of, out_of, parcels_of, places_of, shutdown_timeout_of, stop_of, waiting_of, workers_of};
 ghost use Rattle.server_acceptor.specs.Commanding.{KeepsStop, TakesCommands};
-ghost use Rattle.server_acceptor.specs.Sending.{IsForced};
+ghost use Rattle.server_acceptor.specs.Sending.{IsForced, IsStopped};
 ghost use Rattle.server_acceptor.specs.Stopping.{ForcesAll, IsDue};
 ghost use Rattle.server_acceptor.specs.declared.accept_turn.AcceptTurn.TheVariants.{Going, WorkerEnded, Finished as IsFinished};
 ghost use Rattle.server_acceptor.specs.declared.step.Step.TheVariants as step;
@@ -53,6 +53,7 @@ impl<L: Link> Acceptor<L> {
         ensures once { OnceEach (events_of self.new) }
         ensures in_turn { AsksInTurn Li.given Li.waits Li.skips listeners.old.items listeners.new.items self.old self.new now }
         ensures unasked { idle ≡ false → listeners.new ≡ listeners.old }
+        ensures short { lacks_room_of self.old ≡ true → listeners.new ≡ listeners.old }
         ensures on { result ≡ step.On → ⊥ }
         ensures settled { result ≡ step.Settled → MayAsk self.new
             × (all_ready self.new ≡ true → lacks_room_of self.new ≡ false → IsAccepting (core_of self.new) → idle ≡ true → (t : ℕ) → t < listeners_of self.new
@@ -127,9 +128,13 @@ impl<L: Link> Acceptor<L> {
         ensures forces { (w : ℕ) → IsForced (parcels_of self.new) w → IsForced (parcels_of self.old) w ⊎ IsDue self.new (Cl.told clock.new) }
         ensures due { ((w : ℕ) → result ≡ WorkerEnded w → ⊥) → ForcesAll self.new (Cl.told clock.new) }
 
-        // Each listener is asked in its turn, and another one first in the next turn.
+        // A stop goes out only after one came, or where nothing is left to do.
+        ensures closes { (w : ℕ) → IsStopped (parcels_of self.new) w → IsStopped (parcels_of self.old) w ⊎ IsClosing self.new }
+
+        // Each listener is asked in its turn, and another one first in the next turn. None is, once room for an entry was refused.
         ensures in_turn { AsksInTurn Li.given Li.waits Li.skips listeners.old.items listeners.new.items self.old self.new (Cl.told clock.new) }
         ensures first { first_of self.new ≡ (first_of self.old + 1) % listeners_of self.old }
+        ensures short { lacks_room_of self.old ≡ true → listeners.new ≡ listeners.old }
 
         // It goes on only where it waits for something, or has no room for more events.
         ensures going { result ≡ Going → IsShort self.new

@@ -19,6 +19,8 @@ pub(crate) enum Act {
     Replace(usize),
     /// It is retired.
     Retire(usize),
+    /// Is nothing left to do?
+    Done,
     /// What came back.
     Entries,
     /// Whether each of so many connections of each listener came back once.

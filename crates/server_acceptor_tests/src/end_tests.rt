@@ -1,6 +1,6 @@
 //! How listeners, workers and the acceptor come to an end.
-use crate::act::Act::{Entries, Once, Rounds, Turn, Worker};
-use crate::answer::Answer::{Fail as Fails, Give};
+use crate::act::Act::{Done, Entries, Once, Rounds, Turn, Worker};
+use crate::answer::Answer::{Fail as Fails, Give, NotYet};
 use crate::deed::Deed::{Back, Fault, Ready, Stray, Take};
 use crate::plan::{PLAIN, Plan};
 use crate::telling::{holds, tells};
@@ -71,6 +71,31 @@ fn without_room_for_an_entry_nothing_more_is_accepted(rt: HostRuntime) -> Result
         done: 0 from 0 at 0\n\
         done: 1 from 0 at 1\n";
     holds(&rt, tells(&rt, plan, &[Give(3)], &acts, wanted))
+}
+
+#[test]
+fn nothing_is_left_to_do_once_each_listener_ended_and_all_came_back(
+    rt: HostRuntime,
+) -> Result<(), Fail> {
+    let acts = [
+        Worker(0, Ready),
+        Done,
+        Turn,
+        Done,
+        Turn,
+        Done,
+        Worker(0, Back),
+        Turn,
+        Done,
+    ];
+    let wanted = b"done: no\n\
+        turn, got 0, sent 0\n\
+        done: no\n\
+        turn, ended 0\n\
+        done: no\n\
+        turn, back 0, drained\n\
+        done: yes\n";
+    holds(&rt, tells(&rt, PLAIN, &[Give(1), NotYet], &acts, wanted))
 }
 
 #[test]

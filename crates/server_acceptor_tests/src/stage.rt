@@ -217,6 +217,13 @@ impl Stage {
         self.log.answer(last);
     }
 
+    // Writes down whether nothing is left to do.
+    fn show_done(&mut self) {
+        let done = self.acceptor.is_done();
+        self.log.word("done");
+        self.log.answer(done);
+    }
+
     // Writes down whether each of so many connections of each listener came back once.
     fn show_once(&mut self, links: u64) {
         match is_each_once(self.alloc, self.book.entries(), self.listeners.len(), links) {
@@ -236,6 +243,7 @@ impl Stage {
             Act::Leave(w) => self.leave(w),
             Act::Replace(w) => self.replace(w),
             Act::Retire(w) => self.retire(w),
+            Act::Done => self.show_done(),
             Act::Entries => self.log.entries(self.book.entries()),
             Act::Once(links) => self.show_once(links),
         }

@@ -1,4 +1,4 @@
-use Rattle.std.proofs.Common.{◌∙◌, ap, arith, rules, inr, None, Some, []}
+use Rattle.std.proofs.Common.{◌≡◌, ◌∙◌, true, ap, arith, rules, sym, true≢false, inr, None, Some, []}
 use Rattle.std.specs.Prelude.{slice_index_or}
 use Rattle.server_acceptor.specs.Accepting.{refused}
 use Rattle.server_acceptor.proofs.DoesSteps.{proceeds_trans}
@@ -72,6 +72,11 @@ returns-clause-in_turn g c =
 
 pub returns-clause-settled : goal.returns-clause-settled
 returns-clause-settled g c is = let s = c.ask_all.ensures.settled is in (s.0, λ ready room accepts idle. s.1)
+
+pub returns-clause-short : goal.returns-clause-short
+returns-clause-short g c lacks =
+    let short : c.place_one.new.self.lacks_room ≡ true = (c.place_one.ensures.proceeds c.args.listeners.now.items).does.acts.lacks (c.take_notes.ensures.hands.lacks_room ∙ lacks) in
+    absurd (true≢false (sym short ∙ (c.may_accept.ensures.yes (search rules)).1))
 
 pub returns-clause-ended : goal.returns-clause-ended
 returns-clause-ended g c w is =

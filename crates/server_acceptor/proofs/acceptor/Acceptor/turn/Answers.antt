@@ -5,7 +5,7 @@ use Rattle.server_acceptor.specs.Accepting.{OnceEach, is_command}
 use Rattle.server_acceptor.proofs.CommandSteps.{obeys_proceeds}
 use Rattle.server_acceptor.proofs.DoesSteps.{proceeds_trans}
 use Rattle.server_acceptor.proofs.TurnSteps.{SeenSame, asked_same, ended_same, ends_same, few_idle, given_kept, goes_on_at, halted_same, idle_or_many, in_turn_from, in_turn_same, may_same, turn_does, turn_does_stops, turn_goes_on}
-use Rattle.server_acceptor.proofs.TurnTakes.{due_at, first_failed, first_many, first_refused, forced_from, forces_at, stop_kept, takes_same, turn_takes}
+use Rattle.server_acceptor.proofs.TurnTakes.{due_at, first_failed, first_many, first_refused, forced_from, forces_at, stop_kept, stopped_from, takes_same, turn_takes}
 use Rattle.server_acceptor.proofs.acceptor.Acceptor.turn.Goals as goal
 
 pub make_turn-step-requires-clause-as_many : goal.make_turn-step-requires-clause-as_many
@@ -31,6 +31,12 @@ returns-in-WorkerEnded-clause-stop g c = stop_kept c.args.self.now.stop c.take_c
 
 pub returns-in-WorkerEnded-clause-forces : goal.returns-in-WorkerEnded-clause-forces
 returns-in-WorkerEnded-clause-forces g c w is = inl (forced_from c.args.self.now c.take_commands-idle.new.self c.make_turn-step.new.self w c.take_commands-idle.ensures.takes.obeys.beside.parcels c.make_turn-step.ensures.leaves is)
+
+pub returns-in-WorkerEnded-clause-closes : goal.returns-in-WorkerEnded-clause-closes
+returns-in-WorkerEnded-clause-closes g c w is = inl (stopped_from c.args.self.now c.take_commands-idle.new.self c.make_turn-step.new.self w c.take_commands-idle.ensures.takes.obeys.beside.parcels c.make_turn-step.ensures.leaves is)
+
+pub returns-in-WorkerEnded-clause-short : goal.returns-in-WorkerEnded-clause-short
+returns-in-WorkerEnded-clause-short g c lacks = c.make_turn-step.ensures.short (c.take_commands-idle.ensures.takes.obeys.beside.lacks_room ∙ lacks)
 
 pub returns-in-WorkerEnded-clause-due : goal.returns-in-WorkerEnded-clause-due
 returns-in-WorkerEnded-clause-due g c none = absurd (none c.in-WorkerEnded.w refl)
@@ -71,6 +77,15 @@ returns-clause-forces g c w is = elim (c.come_to.ensures.forces w is) [
   | inl before ↦ inl (forced_from c.args.self.now c.take_commands-idle.new.self c.make_turn-step.new.self w c.take_commands-idle.ensures.takes.obeys.beside.parcels c.make_turn-step.ensures.leaves before)
   | inr due ↦ inr (due_at c.come_to.new.self c.now-now.result _ c.now-now.ensures.answer due)
 ]
+
+pub returns-clause-closes : goal.returns-clause-closes
+returns-clause-closes g c w is = elim (c.come_to.ensures.closes w is) [
+  | inl before ↦ inl (stopped_from c.args.self.now c.take_commands-idle.new.self c.make_turn-step.new.self w c.take_commands-idle.ensures.takes.obeys.beside.parcels c.make_turn-step.ensures.leaves before)
+  | inr closing ↦ inr closing
+]
+
+pub returns-clause-short : goal.returns-clause-short
+returns-clause-short g c lacks = c.make_turn-step.ensures.short (c.take_commands-idle.ensures.takes.obeys.beside.lacks_room ∙ lacks)
 
 pub returns-clause-due : goal.returns-clause-due
 returns-clause-due g c none = forces_at c.come_to.new.self c.now-now.result _ c.now-now.ensures.answer c.come_to.ensures.due
