@@ -1,5 +1,5 @@
 -- What was put on the ring of a worker that was joined came back, and each connection came back as it may.
-use Rattle.std.proofs.Common.{◌≡◌, ◌≤◌, ◌<◌, ◌++◌, ◌∷◌, [], ℕ, zero, suc, true, false, List, All, Contains, length, length-append, sum_by, refl, sym, ◌∙◌, ap, arith, subst, inl, inr, append_assoc}
+use Rattle.std.proofs.Common.{◌≡◌, ◌≤◌, ◌<◌, ◌++◌, ◌∷◌, [], ℕ, zero, suc, true, false, List, All, Contains, Option, None, Some, length, length-append, sum_by, refl, sym, ◌∙◌, ap, arith, subst, inl, inr, append_assoc}
 use Rattle.std.specs.Prelude.{◌⊎◌, Bool, Err, slice_index_or, ◌||◌}
 use Rattle.std.specs.List.{list_any}
 use Rattle.std.proofs.lemmas.List.{append_cancel_left}
@@ -34,6 +34,7 @@ use Rattle.worker_job.specs.declared.departure.Departure.{Departure}
 use Rattle.worker_job.specs.declared.departure.Departure.TheVariants.{Left, Unstarted, Faulted as FaultedJob, Memory}
 use Rattle.worker_job.specs.declared.worker_job.WorkerJob.{WorkerJob}
 use Rattle.server.specs.Joining.{IsJoined}
+use Rattle.server.specs.Retiring.{IsUnfaulted, MayEndEarly}
 use Rattle.server.specs.Starting.{RunsFor}
 use Rattle.server.specs.Tales.{IsFrom, IsTale}
 use Rattle.server.proofs.ReturnSteps.{all_front, told_wider}
@@ -257,6 +258,25 @@ module _ {L F E I : Type 0} (may_serve : F → ℕ → L → Ended L → Type 0)
         by_departure (Unstarted token error) is = lacks ready (rw is at it.hands.promised.signals)
         by_departure (FaultedJob token readiness error) is = errs token readiness error is
         by_departure Memory is = lacks ready (rw is at it.hands.promised.signals)
+
+    -- one whose services never stood took another one's place
+    later : AreSignals it.hands.promised.told it.hands.out.owed.items (Faulted ∷ []) → 1 ≤ length (sent (notes_of job))
+    later signals = by_notes (sent (notes_of job)) refl
+      where
+        by_notes : (ns : List (Note L)) → sent (notes_of job) ≡ ns → 1 ≤ length ns
+        by_notes [] none = absurd (no_unstarted it.hands.promised.told it.hands.out.owed.items (by_ready ready none) signals)
+        by_notes (n ∷ ns) some = omega arith
+
+    pub early : IsUnfaulted it.hands.out.departure → (1 ≤ length (sent (notes_of job))) × ((error : Option (ℕ × I)) × MayEndEarly (may_init factory) listeners error)
+    early unfaulted = by_departure it.hands.out.departure refl unfaulted
+      where
+        by_departure : (departure : Departure E I) → it.hands.out.departure ≡ departure → IsUnfaulted departure → (1 ≤ length (sent (notes_of job))) × ((error : Option (ℕ × I)) × MayEndEarly (may_init factory) listeners error)
+        by_departure Left is ended = absurd (not_left is)
+        by_departure (Unstarted token error) is ended =
+            let departs = rw is at it.hands.promised.departs in
+            (later (rw is at it.hands.promised.signals), (Some (token, error), (subst (λ n. token < n) runs.as_many departs.1, runs.means.inits token error departs.2)))
+        by_departure (FaultedJob token readiness error) is ended = absurd ended
+        by_departure Memory is ended = (later (rw is at it.hands.promised.signals), (None, tt))
 
     -- nothing is on its way behind that note
     pub none_known : known_items it.joined.notes ≡ []

@@ -175,6 +175,7 @@ module _ {Li L D F E I : Type 0} (given : Li → ℕ) (left : Li → Option (Lis
       settled = settled_on identity (length rs) (MayFault (may_ready factory) (may_init factory) listeners) (may_serve factory) (may_leave factory) (may_make factory) listeners p q n m (does.acts.puts w).more (does.acts.receives w).more
           went came no_put no_back retired.makes retired.settled;
       off = ap (λ order. in_order order w) core.0 ∙ retired.off;
+      gone = ap (λ s. set.contains s w) core.1 ∙ retired.gone;
       makes = retired.makes;
       fault = retired.fault;
     }

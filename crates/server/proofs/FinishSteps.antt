@@ -48,8 +48,8 @@ use Rattle.server_acceptor.specs.Beginning.{IsNew}
 use Rattle.server_acceptor.specs.Carrying.{Carries, IsLetGo, came_back, each, has_place, in_waiting, let_gone, put}
 use Rattle.server_acceptor.specs.Notes.{count_back}
 use Rattle.server_acceptor.specs.Rings.{ring_in, ring_out}
-use Rattle.server_acceptor.specs.Sending.{IsForced}
-use Rattle.server_jobs.specs.Parcels.{is_force}
+use Rattle.server_acceptor.specs.Sending.{IsStopped}
+use Rattle.server_jobs.specs.Parcels.{is_stop as is_parcel_stop}
 use Rattle.server_acceptor.specs.States.{IsStateOf}
 use Rattle.server_core.specs.Core.{Core}
 use Rattle.server_acceptor.specs.declared.acceptor.Acceptor.{Acceptor}
@@ -150,11 +150,11 @@ no_some None none some = cc
 no_some (Some x) none some = cc
 
 -- no stop was taken up at the start, and none went out
-none_forced : {L : Type 0} (ps : List (Producer (Parcel L) Global AnyItems)) → All (λ p. sent p ≡ []) ps → (w : ℕ) → IsForced ps w → ⊥
-none_forced [] unsent w is = omega (arith, is)
-none_forced {L = L} (p ∷ ps) unsent zero is =
-    let some : 0 < count_by (is_force {L = L}) [] = subst (λ (items : List (Parcel L)). 0 < count_by (is_force {L = L}) items) (All-head (λ p. sent p ≡ []) p ps unsent) is in omega (arith, some)
-none_forced (p ∷ ps) unsent (suc w) is = none_forced ps (All-tail (λ p. sent p ≡ []) p ps unsent) w is
+none_told : {L : Type 0} (ps : List (Producer (Parcel L) Global AnyItems)) → All (λ p. sent p ≡ []) ps → (w : ℕ) → IsStopped ps w → ⊥
+none_told [] unsent w is = omega (arith, is)
+none_told {L = L} (p ∷ ps) unsent zero is =
+    let some : 0 < count_by (is_parcel_stop {L = L}) [] = subst (λ (items : List (Parcel L)). 0 < count_by (is_parcel_stop {L = L}) items) (All-head (λ p. sent p ≡ []) p ps unsent) is in omega (arith, some)
+none_told (p ∷ ps) unsent (suc w) is = none_told ps (All-tail (λ p. sent p ≡ []) p ps unsent) w is
 
 -- what was just started, by rows
 module _ {L F E I : Type 0} (may_serve : F → ℕ → L → Ended L → Type 0) (may_leave : F → ℕ → L → L → Type 0) (may_ready : F → ℕ → Readiness E → Type 0) (may_init : F → ℕ → I → Type 0) (may_make : F → ℕ → Type 0)
@@ -185,7 +185,7 @@ untold_start may_serve may_leave may_ready may_init may_make identity workers fa
   no_stop = fresh.stop;
   unpaused = ap (λ (s : Core). s.paused) fresh.core;
   unstopped = ap (λ (s : Core). s.stopping) fresh.core;
-  none_sent = none_forced (parcels_of a) (none_sent_yet may_serve may_leave may_ready may_init may_make identity workers factory listeners (parcels_of a) (notes_of a) rs as_many started);
+  none_sent = none_told (parcels_of a) (none_sent_yet may_serve may_leave may_ready may_init may_make identity workers factory listeners (parcels_of a) (notes_of a) rs as_many started);
 }
 
 -- what has come back by a note is not stopped where no stop came, and nothing comes back by joins

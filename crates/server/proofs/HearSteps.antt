@@ -6,6 +6,7 @@ use Rattle.std.specs.Option.{option_map}
 use Rattle.std.proofs.lemmas.List.{append-nil}
 use Rattle.std.proofs.lemmas.List.Sums.{sum_by-cons}
 use Rattle.server_acceptor.proofs.LogSteps.{after_append}
+use Rattle.server_acceptor.proofs.Sendings.{stop_of_force}
 use Rattle.server_acceptor.specs.Accepting.{is_command}
 use Rattle.server_acceptor.specs.Acceptors.{core_of, events_of, parcels_of, shutdown_timeout_of, stop_of}
 use Rattle.server_acceptor.specs.Commanding.{AddsOwn, ComeFrom, IsPausedOnly, KeepsStop, TakesCommands, events_for, stops_behind}
@@ -275,7 +276,7 @@ pub in_time_none : {L : Type 0} (a : Acceptor L) (start : ℕ) → IsUntold a �
 in_time_none a start untold = record {
   same_timeout = refl;
   since = subst (λ (o : Option FirstStop). IfSome o (λ s. start ≤ s.since)) (sym untold.no_stop) tt;
-  forced = λ w is. absurd (untold.none_sent w is);
+  forced = λ w is. absurd (untold.none_sent w (stop_of_force (parcels_of a) w is));
   onward = omega arith;
 }
 

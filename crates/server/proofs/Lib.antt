@@ -19,3 +19,5 @@ pub mod CrewSteps
 pub mod TakeBackSteps
 pub mod ReplaceSteps
 pub mod PlaceSteps
+pub mod DoneSteps
+pub mod RetireSteps

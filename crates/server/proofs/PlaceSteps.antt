@@ -1,15 +1,16 @@
 -- The workers of a run once the job of one was joined, and it was replaced or retired.
-use Rattle.std.proofs.Common.{◌≡◌, ◌≢◌, ◌≤◌, ◌<◌, ◌++◌, ◌∷◌, [], ℕ, zero, suc, ◌+◌, Bool, true, false, true≢false, List, All, Contains, Option, None, Some, IfSome, length, map, slice_get, slice_index, sum_by, refl, sym, ◌∙◌, ap, arith, subst, inl, inr, get_or-set_other, get_or-set_same, length-set}
-use Rattle.std.specs.Prelude.{◌-◌, ◌^◌, min, slice_index_or, slice_set, sum}
-use Rattle.std.specs.List.{range_with_len}
+use Rattle.std.proofs.Common.{◌≡◌, ◌≢◌, ◌≤◌, ◌<◌, ◌++◌, ◌∷◌, [], ℕ, zero, suc, ◌+◌, Bool, true, false, true≢false, List, All, Contains, Option, None, Some, IfSome, length, map, slice_get, slice_index, sum_by, refl, sym, ◌∙◌, ap, arith, subst, inl, inr, get_or-set_other, length-set}
+use Rattle.std.specs.Prelude.{◌==◌, ◌||◌, ◌-◌, ◌^◌, cond, count_by, is_some, min, nat_eq, nat_lt, slice_index_or, slice_set, sum}
+use Rattle.std.specs.List.{list_any, range_with_len}
 use Rattle.std.specs.FinSet as set
 use Rattle.std.specs.Option.{option_map_or}
 use Rattle.std.proofs.lemmas.Bool.{cases_eq, cases_lt}
+use Rattle.std.proofs.lemmas.Bool.Decides.{nat_tests}
 use Rattle.std.proofs.lemmas.List.{append-nil, get_or_past, length-map}
 use Rattle.std.proofs.lemmas.List.Folds.{list_all_at}
 use Rattle.std.proofs.lemmas.List.FromFn.{get_or-range_with_len, length-range_with_len}
 use Rattle.std.proofs.lemmas.Option.{slice_get-get_or, slice_get_past, slice_get_read}
-use Rattle.std.proofs.lemmas.List.Sums.{sum_by-cons}
+use Rattle.std.proofs.lemmas.List.Sums.{sum_by-append, sum_by-cons}
 use Rattle.std.specs.declared.alloc.Global.{Global}
 use Rattle.rtrb.specs.Ring.{ConsumerLooked, IsPair, ProducerLooked, known_items, received, sent}
 use Rattle.rtrb.specs.declared.AnyItems.{AnyItems}
@@ -23,12 +24,15 @@ use Rattle.server_acceptor.specs.Accepting.{received_at}
 use Rattle.server_acceptor.specs.Acceptors.{core_of, notes_of as rings_back, parcels_of as rings_to, workers_of}
 use Rattle.server_acceptor.specs.Notes.{count_back}
 use Rattle.server_acceptor.specs.Rings.{count_put, ring_in, ring_out}
-use Rattle.server_acceptor.specs.Sending.{sent_to}
+use Rattle.server_acceptor.proofs.PlaceSteps.{contains_inserted}
+use Rattle.server_acceptor.specs.Sending.{IsStopped, sent_to}
 use Rattle.server_acceptor.specs.declared.acceptor.Acceptor.{Acceptor}
-use Rattle.server_core.specs.Core.{Core, all_retired, held, in_order, step}
-use Rattle.server_core.specs.declared.event.Event.TheVariants.{Replaced}
+use Rattle.server_core.proofs.Orders.{in_order-push}
+use Rattle.server_core.specs.Core.{Core, all_retired, allowed, held, in_order, let_go, may_return, step}
+use Rattle.server_core.specs.declared.event.Event.TheVariants.{Replaced, Retired}
 use Rattle.server_jobs.specs.Cards.{of_note, of_parcel}
 use Rattle.server_jobs.specs.Jobs.{job_of}
+use Rattle.server_jobs.specs.Parcels.{is_stop}
 use Rattle.server_jobs.specs.Returning.{entries_of, entry_of_note}
 use Rattle.server_jobs.specs.declared.handed.Handed.{Handed}
 use Rattle.server_jobs.specs.declared.note.Note.{Note}
@@ -39,10 +43,12 @@ use Rattle.server_run.specs.Outcome.{is_stopped}
 use Rattle.server_run.specs.Serving.{MayFault}
 use Rattle.server_run.specs.declared.outcome.Outcome.{Outcome}
 use Rattle.server.specs.Replacing.{Crew, HasFaulted, IsEven, IsRetired, IsSuccessor, KeepsOthers, MayTakeBack, Recalls, Runs, all_back}
+use Rattle.server.specs.Retiring.{IsUnfaulted, MayEndEarly, vacancy}
 use Rattle.server.specs.Rows.{by_job, line_of}
 use Rattle.server.specs.Starting.{RunsFor}
 use Rattle.server.proofs.CrewSteps.{at_place}
-use Rattle.server.proofs.ReplaceSteps.{all_taken, crew_after, fault_there, keeps_looked, keeps_rings, keeps_taken, keeps_trans, makes_there, off_replaced, many_there, owed_calm, place_there, runs_anew, sent_at, settled_now}
+use Rattle.server.proofs.ReplaceSteps.{all_taken, crew_after, early_there, fault_there, keeps_looked, keeps_rings, keeps_taken, keeps_trans, makes_there, off_replaced, many_there, owed_calm, place_there, runs_anew, sent_at, settled_now}
+use Rattle.server.proofs.RetireSteps.{all_vacant, get_here}
 use Rattle.server.proofs.Rows.{map_at, runs_kept}
 use Rattle.server.proofs.TakeBackSteps.{received_same}
 use Rattle.worker_job.specs.Jobs.{notes_of}
@@ -59,6 +65,18 @@ pub within : {X : Type 0} (xs : List X) (w : ℕ) (x : X) → slice_get xs w ≡
 within [] w x at = absurd (cc)
 within (y ∷ ys) zero x at = omega arith
 within (y ∷ ys) (suc w) x at = let r = within ys w x at in omega (arith, r)
+
+-- where one is found, it is counted
+found : {X : Type 0} (test : X → Bool) (ys : List X) → list_any test ys ≡ true → 0 < count_by test ys
+found test [] has = absurd (cc)
+found {X = X} test (y ∷ ys) has = by_test (test y) refl (λ rest. found test ys rest)
+  where
+    by_test : (b : Bool) → test y ≡ b → (list_any test ys ≡ true → 0 < count_by test ys) → 0 < count_by test (y ∷ ys)
+    by_test true is later = let more = sum_by-cons (λ (x : X). cond (test x) 1 0) y ys in let one : ◌≡◌ {A = ℕ} (cond (test y) 1 0) 1 = ap (λ b. cond b 1 0) is in omega (arith, more, one)
+    by_test false is later = let more = sum_by-cons (λ (x : X). cond (test x) 1 0) y ys in let rest = later (rw is at has) in omega (arith, more, rest)
+
+counted : {X : Type 0} (test : X → Bool) (xs ys : List X) → list_any test ys ≡ true → 0 < count_by test (xs ++ ys)
+counted {X = X} test xs ys has = let all = sum_by-append (λ (x : X). cond (test x) 1 0) xs ys in let some = found test ys has in omega (arith, all, some)
 
 some_is : {X : Type 0} (P : X → Type 0) (o : Option X) (x : X) → o ≡ Some x → IfSome o P → P x
 some_is P o x is has = rw is at has
@@ -164,6 +182,23 @@ module _ {F L E I : Type 0} (may_serve : F → ℕ → L → Ended L → Type 0)
     looked_in.0.0.3 ∙ promised.accounts.same_inward.0.3 ∙ runs.to_it.3,
   )
 
+  pub early_now : IsUnfaulted handed.departure → (1 ≤ length (sent (notes_of (job_of r)))) × ((error : Option (ℕ × I)) × MayEndEarly (may_init factory) listeners error)
+  early_now = early_there may_serve may_leave may_ready may_init may_make identity factory listeners (length rs) w number p n r runs out handed promised looked_in looked_out same to_p from_n ready_now more since_now told.1.2
+
+  -- a stop that is left in its ring was sent
+  pub stop_there : list_any is_stop (known_items handed.parcels) ≡ true → IsStopped (rings_to a) w
+  stop_there has = subst (λ ps. 0 < count_by is_stop ps) sent_there (counted is_stop (received handed.parcels) (known_items handed.parcels) has)
+    where
+      sent_there : received handed.parcels ++ known_items handed.parcels ≡ sent_to (rings_to a) w
+      sent_there = to_p ∙ sent_at may_serve may_leave may_ready may_init may_make identity factory listeners w a b keeps w first_p.0 p first_p.1 p_at.1 ∙ sym (at_place (λ x. sent x) (rings_to a) w first_p.0 [] first_p.1)
+
+  -- it was not retired
+  pub kept_first : set.contains (core_of a).retired w ≡ false
+  kept_first = runs_first.kept
+
+  pub none_left_now : (c : Acceptor L) (recalls : Recalls b c w handed) → slice_index (core_of c).out w ≡ 0
+  none_left_now c recalls = let m = many_now recalls.outcome in let o = recalls.takes.out in omega (arith, m, o)
+
   -- once it was taken back
   module _ (c d : Acceptor L) (recalls : Recalls b c w handed) (onward : KeepsOthers w c d) (came_d : received_at (rings_back d) w ≡ received_at (rings_back c) w) where
     ends : KeepsOthers w a d
@@ -177,8 +212,8 @@ module _ {F L E I : Type 0} (may_serve : F → ℕ → L → Ended L → Type 0)
 
     module _ (ss : List (Option (Running (WorkerJob L F) (Handed L F (Departure E I))))) (many : length ss ≡ length rs) (elsewhere : (v : ℕ) → v ≢ w → slice_get ss v ≡ slice_get rs v) where
       -- none takes its place
-      pub crew_retired : slice_get ss w ≡ Some None → in_order (core_of d).order w ≡ false → Crew may_serve may_leave may_ready may_init may_make identity factory listeners d ss
-      crew_retired none off_d = crew_after may_serve may_leave may_ready may_init may_make identity factory listeners w a d ends rs ss many elsewhere crew (λ q m o at_q at_m at_o.
+      pub crew_retired : slice_get ss w ≡ Some None → in_order (core_of d).order w ≡ false → set.contains (core_of d).retired w ≡ true → Crew may_serve may_leave may_ready may_init may_make identity factory listeners d ss
+      crew_retired none off_d gone_d = crew_after may_serve may_leave may_ready may_init may_make identity factory listeners w a d ends rs ss many elsewhere crew (λ q m o at_q at_m at_o.
           let same_one : Some None ≡ Some o = sym none ∙ at_o in
           let is : None ≡ o = cc in
           subst (λ x. by_job (Runs may_serve may_leave may_ready may_init may_make identity factory listeners (length rs) w (core_of d)) (IsRetired {E = E} {I = I} may_serve may_leave may_ready may_init may_make identity factory listeners (length rs) w (core_of d)) q m x) is
@@ -186,6 +221,7 @@ module _ {F L E I : Type 0} (may_serve : F → ℕ → L → Ended L → Type 0)
             settled = settled_now may_serve may_leave may_ready may_init may_make identity factory listeners (length rs) w number p n r runs out handed promised looked_in looked_out same to_p from_n ready_now more since_now told.1.2
                 recalls.outcome recalls.as_left recalls.notes recalls.takes.went q m (sent_same q at_q) (came_same m at_m);
             off = off_d;
+            gone = gone_d;
             makes = makes_there may_serve may_leave may_ready may_init may_make identity factory listeners (length rs) w number p n r runs out handed promised looked_in looked_out same to_p from_n ready_now more since_now told.1.2;
             fault = fault_now;
           }))
@@ -254,6 +290,38 @@ module _ {F L E I : Type 0} (may_serve : F → ℕ → L → Ended L → Type 0)
             let back = at_place (λ x. sum_by (of_note identity (λ c. 1)) (received x)) (rings_back d) w m.0 0 m.1 in
             let none = none_there_now same_d in omega (arith, balanced, put, back, none)
 
+-- a worker that is neither in order nor retired, and has nothing out, may be replaced or retired
+pub may_return_now : (s : Core) (w : ℕ) → w < length s.out → in_order s.order w ≡ false → set.contains s.retired w ≡ false → slice_index s.out w ≡ 0 → may_return s w ≡ true
+may_return_now s w inside off kept none =
+    let is_there : nat_lt w (length s.out) ≡ true = grind (arith, nat_tests) in
+    let empty : (slice_index s.out w == 0) ≡ true = grind (arith, nat_tests) in
+    rw (is_there, off, kept, empty) refl
+
+same_number : (w : ℕ) → (w == w) ≡ true
+same_number w = grind (arith, nat_tests)
+
+or_true : (a : Bool) → (a || true) ≡ true
+or_true true = refl
+or_true false = refl
+
+pub no_stop : (stopping : Option Bool) → stopping ≡ None → is_some stopping ≡ true → ⊥
+no_stop None none some = cc
+no_stop (Some graceful) none some = cc
+
+-- one that is replaced is in order
+pub placed_now : (w : ℕ) (s t : Core) (put : Bool) → may_return s w ≡ true → (put ≡ true → t ≡ step s (Replaced w)) → (put ≡ false → (t ≡ s) × (allowed s (Replaced w) ≡ false)) → in_order t.order w ≡ true
+placed_now w s t true may put refused = ap (λ (k : Core). in_order k.order w) (put refl) ∙ in_order-push s.order w w ∙ ap (λ b. in_order s.order w || (b || false)) (same_number w) ∙ or_true (in_order s.order w)
+placed_now w s t false may put refused = absurd (true≢false (sym may ∙ (refused refl).1))
+
+-- one that is retired is so
+pub gone_now : {X : Type 0} (w : ℕ) (s t : Core) → may_return s w ≡ true → (allowed s (Retired w) ≡ true → (t ≡ step s (Retired w)) × X) → set.contains t.retired w ≡ true
+gone_now w s t may retired = ap (λ (k : Core). set.contains k.retired w) (retired may).0 ∙ by_left (all_retired (record s { retired = set.insert s.retired w }))
+    ∙ contains_inserted s.retired w w ∙ ap (λ b. b || set.contains s.retired w) (same_number w)
+  where
+    by_left : (b : Bool) → set.contains (cond b (let_go (record s { retired = set.insert s.retired w })) (record s { retired = set.insert s.retired w })).retired w ≡ set.contains (set.insert s.retired w) w
+    by_left true = refl
+    by_left false = refl
+
 -- what a worker's place keeps where it is put last in the order, or is not
 pub replaced_keeps : (w : ℕ) (s t : Core) (put : Bool) {X : Type 0} → (put ≡ true → t ≡ step s (Replaced w)) → (put ≡ false → (t ≡ s) × X)
     → (t.out ≡ s.out) × (t.waiting ≡ s.waiting) × (t.retired ≡ s.retired) × ((v : ℕ) → v ≢ w → in_order s.order v ≡ false → in_order t.order v ≡ false)
@@ -320,14 +388,46 @@ started_same before now is = omega (arith, is)
 pub at_taken : {X : Type 0} (xs : List X) (w : ℕ) (now : X) → w < length xs → now ≡ slice_index_or xs w now → slice_get xs w ≡ Some now
 at_taken xs w now inside value = slice_get_read xs (length xs) w now refl inside value
 
-pub get_here : {X : Type 0} (xs : List X) (w : ℕ) (x : X) → w < length xs → slice_get (slice_set xs w x) w ≡ Some x
-get_here xs w x inside = slice_get-get_or (slice_set xs w x) w x (subst (λ n. w < n) (sym (length-set xs w x)) inside) ∙ ap (λ y. Some y) (get_or-set_same xs w x x inside)
-
 pub get_elsewhere : {X : Type 0} (xs : List X) (w v : ℕ) (x : X) → v ≢ w → slice_get (slice_set xs w x) v ≡ slice_get xs v
 get_elsewhere xs w v x other = elim (cases_lt v (length xs)) [
   | inl inside ↦ slice_get-get_or (slice_set xs w x) v x (subst (λ n. v < n) (sym (length-set xs w x)) inside) ∙ ap (λ y. Some y) (get_or-set_other xs w v x x other) ∙ sym (slice_get-get_or xs v x inside)
   | inr past ↦ slice_get_past (slice_set xs w x) v (subst (λ n. n ≤ v) (sym (length-set xs w x)) past) ∙ sym (slice_get_past xs v past)
 ]
+
+-- what is at a place of workers, where none was put there, or one is in order
+pub placed_none : (P : Type 0) {X : Type 0} (xs : List (Option X)) (w : ℕ) (y : Option X) → y ≡ None → w < length xs → IfSome (slice_get (slice_set xs w y) w) (λ now. is_some now ≡ true → P)
+placed_none P xs w y none inside = subst (λ o. IfSome o (λ now. is_some now ≡ true → P)) (sym (get_here xs w y inside)) (λ some. absurd (let is : is_some y ≡ true = some in by_none y none is))
+  where
+    by_none : {Y : Type 0} (o : Option Y) → o ≡ None → is_some o ≡ true → ⊥
+    by_none None none some = cc
+    by_none (Some x) none some = cc
+
+pub placed_so : {X P : Type 0} (o : Option (Option X)) → P → IfSome o (λ now. is_some now ≡ true → P)
+placed_so None holds = tt
+placed_so (Some now) holds = λ some. holds
+
+-- where all are retired, each is
+each_gone : (s : Core) → all_retired s ≡ true → (v : ℕ) → v < length s.out → set.contains s.retired v ≡ true
+each_gone s all v inside = either (set.contains s.retired v) refl
+  where
+    from_zero : (v : ℕ) → 0 + v ≡ v
+    from_zero v = omega arith
+
+    either : (x : Bool) → set.contains s.retired v ≡ x → set.contains s.retired v ≡ true
+    either true is = is
+    either false is = absurd (true≢false (sym all ∙ list_all_at (λ w. set.contains s.retired w) (range_with_len 0 (length s.out)) v 0 (subst (λ k. v < k) (sym (length-range_with_len 0 (length s.out))) inside)
+        (ap (λ x. set.contains s.retired x) (get_or-range_with_len 0 (length s.out) v 0 inside ∙ from_zero v) ∙ is)))
+
+-- and no place has a worker
+pub none_runs : {F L E I : Type 0} (may_serve : F → ℕ → L → Ended L → Type 0) (may_leave : F → ℕ → L → L → Type 0) (may_ready : F → ℕ → Readiness E → Type 0) (may_init : F → ℕ → I → Type 0) (may_make : F → ℕ → Type 0)
+    (identity : L → Identity) (factory : F) (listeners : ℕ) (d : Acceptor L) (ss : List (Option (Running (WorkerJob L F) (Handed L F (Departure E I)))))
+    → Crew may_serve may_leave may_ready may_init may_make identity factory listeners d ss → all_retired (core_of d) ≡ true → sum_by vacancy ss ≡ length ss
+none_runs {F = F} {L = L} {E = E} {I = I} may_serve may_leave may_ready may_init may_make identity factory listeners d ss crew all = all_vacant ss (λ w r at.
+    let inside = within ss w (Some r) at in
+    let p = there (rings_to d) w (let m = crew.as_many.0 in omega (arith, m, inside)) in
+    let n = there (rings_back d) w (let m = crew.as_many.1 in omega (arith, m, inside)) in
+    let runs : Runs may_serve may_leave may_ready may_init may_make identity factory listeners (length ss) w (core_of d) (line_of p.0 n.0 r) = crew.each w p.0 n.0 (Some r) p.1 n.1 at in
+    true≢false (sym (each_gone (core_of d) all w (let m = crew.as_many.0 in let k = d.workers.0 in omega (arith, m, k, inside))) ∙ runs.kept))
 
 -- where all are retired, nothing is out
 pub none_out : {F L E I : Type 0} (may_serve : F → ℕ → L → Ended L → Type 0) (may_leave : F → ℕ → L → L → Type 0) (may_ready : F → ℕ → Readiness E → Type 0) (may_init : F → ℕ → I → Type 0) (may_make : F → ℕ → Type 0)
@@ -335,17 +435,6 @@ pub none_out : {F L E I : Type 0} (may_serve : F → ℕ → L → Ended L → T
     → Crew may_serve may_leave may_ready may_init may_make identity factory listeners d ss → IsEven identity d → all_retired (core_of d) ≡ true → sum (core_of d).out ≡ 0
 none_out {F = F} {L = L} {E = E} {I = I} may_serve may_leave may_ready may_init may_make identity factory listeners d ss crew even all = all_zero (core_of d).out each
   where
-    from_zero : (v : ℕ) → 0 + v ≡ v
-    from_zero v = omega arith
-
-    each_retired : (v : ℕ) → v < length (core_of d).out → set.contains (core_of d).retired v ≡ true
-    each_retired v inside = either (set.contains (core_of d).retired v) refl
-      where
-        either : (x : Bool) → set.contains (core_of d).retired v ≡ x → set.contains (core_of d).retired v ≡ true
-        either true is = is
-        either false is = absurd (true≢false (sym all ∙ list_all_at (λ w. set.contains (core_of d).retired w) (range_with_len 0 (length (core_of d).out)) v 0 (subst (λ k. v < k) (sym (length-range_with_len 0 (length (core_of d).out))) inside)
-            (ap (λ x. set.contains (core_of d).retired x) (get_or-range_with_len 0 (length (core_of d).out) v 0 inside ∙ from_zero v) ∙ is)))
-
     row_zero : (v : ℕ) (p : Producer (Parcel L) Global AnyItems) (n : Consumer (Note L) Global AnyItems) (r : Option (Running (WorkerJob L F) (Handed L F (Departure E I)))) → set.contains (core_of d).retired v ≡ true
         → slice_get (rings_to d) v ≡ Some p → slice_get (rings_back d) v ≡ Some n
         → by_job (Runs may_serve may_leave may_ready may_init may_make identity factory listeners (length ss) v (core_of d)) (IsRetired {E = E} {I = I} may_serve may_leave may_ready may_init may_make identity factory listeners (length ss) v (core_of d)) p n r
@@ -362,7 +451,7 @@ none_out {F = F} {L = L} {E = E} {I = I} may_serve may_leave may_ready may_init 
         let p = there (rings_to d) v here in
         let n = there (rings_back d) v (let a = crew.as_many.0 in let b = crew.as_many.1 in omega (arith, a, b, here)) in
         let r = there ss v (let a = crew.as_many.0 in omega (arith, a, here)) in
-        row_zero v p.0 n.0 r.0 (each_retired v inside) p.1 n.1 (crew.each v p.0 n.0 r.0 p.1 n.1 r.1)
+        row_zero v p.0 n.0 r.0 (each_gone (core_of d) all v inside) p.1 n.1 (crew.each v p.0 n.0 r.0 p.1 n.1 r.1)
 
     no_row : (v : ℕ) → length (rings_to d) ≤ v → slice_index (core_of d).out v ≡ 0
     no_row v past =

@@ -1,5 +1,5 @@
 -- What becomes of a worker's place once its job is joined while the server accepts.
-use Rattle.std.proofs.Common.{◌≡◌, ◌≢◌, ◌<◌, ◌++◌, ◌∷◌, [], ℕ, ◌+◌, ◌==◌, true, false, List, All, Contains, Option, None, Some, length, map, slice_get, sum_by, refl, sym, ◌∙◌, ap, arith, subst, inl, inr}
+use Rattle.std.proofs.Common.{◌≡◌, ◌≢◌, ◌≤◌, ◌<◌, ◌++◌, ◌∷◌, [], ℕ, ◌+◌, ◌==◌, true, false, List, All, Contains, Option, None, Some, length, map, slice_get, sum_by, refl, sym, ◌∙◌, ap, arith, subst, inl, inr}
 use Rattle.std.specs.Prelude.{◌||◌}
 use Rattle.std.specs.List.{list_any}
 use Rattle.std.specs.FinSet as set
@@ -45,10 +45,11 @@ use Rattle.server_run.specs.declared.outcome.Outcome.{Outcome}
 use Rattle.server_worker.specs.Stops.{is_forced}
 use Rattle.server.specs.Joining.{IsJoined}
 use Rattle.server.specs.Replacing.{Crew, IsLeftHere, IsRetired, IsSettled, KeepsOthers, Runs, TakesBack, all_back, backs, entry_left}
+use Rattle.server.specs.Retiring.{IsUnfaulted, MayEndEarly}
 use Rattle.server.specs.Rows.{by_job, line_of}
 use Rattle.server.specs.Starting.{RunsFor}
 use Rattle.server.specs.Tales.{IsFrom, IsLostHere, IsTale}
-use Rattle.server.proofs.BackSteps.{fault, from_left, from_owed, is_there, none_known, owed_unstopped, true_came, unstopped}
+use Rattle.server.proofs.BackSteps.{early, fault, from_left, from_owed, is_there, none_known, owed_unstopped, true_came, unstopped}
 use Rattle.server.proofs.Bringing.{entries_weigh, note_weighs, waiting_weighs}
 use Rattle.server.proofs.CrewSteps.{at_place}
 use Rattle.server.proofs.Delivering.{ones}
@@ -141,6 +142,7 @@ module _ {F L E I : Type 0} (may_serve : F → ℕ → L → Ended L → Type 0)
             (subst (λ ps. All (IsTale workers (MayFault (may_ready factory) (may_init factory) listeners) (may_serve factory) (may_leave factory) (may_make factory) listeners ps) (received n)) (sym went) stands.settled.told);
       };
       off = keeps.off v other stands.off;
+      gone = keeps.retired v other ∙ stands.gone;
       makes = stands.makes;
       fault = stands.fault;
     }
@@ -196,6 +198,9 @@ module _ {F L E I : Type 0} (may_serve : F → ℕ → L → Ended L → Type 0)
 
     pub fault_there : Fault
     fault_there = fault may_serve may_leave may_ready may_init may_make identity workers factory listeners (line_of p n r) runs it ready more since faulted
+
+    pub early_there : IsUnfaulted handed.departure → (1 ≤ length (sent (notes_of (job_of r)))) × ((error : Option (ℕ × I)) × MayEndEarly (may_init factory) listeners error)
+    early_there unfaulted = early may_serve may_leave may_ready may_init may_make identity workers factory listeners (line_of p n r) runs it ready more since faulted (subst (λ d. IsUnfaulted d) same.3 unfaulted)
 
     none_there : known_items n ≡ []
     none_there = none_known may_serve may_leave may_ready may_init may_make identity workers factory listeners (line_of p n r) runs it ready more since faulted

@@ -8,5 +8,6 @@ pub mod Settings
 pub mod Starting
 pub mod Tales
 pub mod Replacing
+pub mod Retiring
 pub mod Returning
 pub mod Stopping

@@ -1,5 +1,5 @@
 -- Workers that end by a fault while the server accepts: what they had comes back, and another one takes their place, or none.
-use Rattle.std.specs.Prelude.{◌≡◌, ◌≢◌, ◌⊎◌, ◌++◌, ℕ, ◌+◌, ◌-◌, ◌^◌, ◌≤◌, ◌<◌, Bool, false, List, All, Contains, None, Option, Some, IfSome, length, map, min, slice_get, slice_index, sum, sum_by}
+use Rattle.std.specs.Prelude.{◌≡◌, ◌≢◌, ◌⊎◌, ◌++◌, ℕ, ◌+◌, ◌-◌, ◌^◌, ◌≤◌, ◌<◌, Bool, true, false, List, All, Contains, None, Option, Some, IfSome, length, map, min, slice_get, slice_index, sum, sum_by}
 use Rattle.std.specs.List.{list_any}
 use Rattle.std.specs.FinSet as set
 use Rattle.std.specs.declared.alloc.Global.{Global}
@@ -61,6 +61,7 @@ module _ {F L E I : Type 0} (may_serve : F → ℕ → L → Ended L → Type 0)
   pub record IsRetired (workers : ℕ) (w : ℕ) (core : Core) (p : Producer (Parcel L) Global AnyItems) (n : Consumer (Note L) Global AnyItems) : Type 0 where
     pub settled : IsSettled identity workers (MayFault (may_ready factory) (may_init factory) listeners) (may_serve factory) (may_leave factory) (may_make factory) listeners p n
     pub off : in_order core.order w ≡ false
+    pub gone : set.contains core.retired w ≡ true
     pub makes : (token : ℕ) → token < listeners → may_make factory token
     pub fault : MayFault (may_ready factory) (may_init factory) listeners
 

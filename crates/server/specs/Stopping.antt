@@ -3,7 +3,7 @@ use Rattle.std.specs.Prelude.{◌≡◌, ◌⊎◌, ◌≤◌, ◌++◌, ◌∷�
 use Rattle.std.specs.Option.{option_map}
 use Rattle.server_acceptor.specs.Acceptors.{core_of, parcels_of, shutdown_timeout_of, stop_of}
 use Rattle.server_acceptor.specs.Commanding.{stops_behind}
-use Rattle.server_acceptor.specs.Sending.{IsForced}
+use Rattle.server_acceptor.specs.Sending.{IsForced, IsStopped}
 use Rattle.server_acceptor.specs.Stopping.{IsDue}
 use Rattle.server_acceptor.specs.declared.acceptor.Acceptor.{Acceptor}
 use Rattle.server_core.specs.Core.{Core, first_of}
@@ -93,4 +93,4 @@ pub record IsUntold {L : Type 0} (a : Acceptor L) : Type 0 where
   pub no_stop : stop_of a ≡ None
   pub unpaused : (core_of a).paused ≡ false
   pub unstopped : (core_of a).stopping ≡ None
-  pub none_sent : (w : ℕ) → IsForced (parcels_of a) w → ⊥
+  pub none_sent : (w : ℕ) → IsStopped (parcels_of a) w → ⊥

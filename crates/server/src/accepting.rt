@@ -1,12 +1,14 @@
 //! How the server accepts, turn after turn.
-ghost use Rattle.std.specs.Prelude.{◌≡◌, ◌⊎◌, ◌≤◌, ◌<◌, [], length, vec_len, IfSome, None, true, false};
+ghost use Rattle.std.specs.Prelude.{◌≡◌, ◌⊎◌, ◌≤◌, ◌<◌, [], length, vec_len, IfSome, None, Some, true, false};
 ghost use Rattle.server_acceptor.specs.Accepting.{IsNoted};
 ghost use Rattle.server_acceptor.specs.Acceptors.{all_ready, out_of, serial_of, shutdown_timeout_of};
 ghost use Rattle.server_acceptor.specs.Carrying.{Carries};
 ghost use Rattle.server_run.specs.Report.{is_stop};
 ghost use Rattle.server_run.specs.Serving.{MayFault};
+ghost use Rattle.server_run.specs.declared.report.End.TheVariants.{NoWorkers};
 ghost use Rattle.server.specs.Accepting.{Accepts, CanAccept, Ends, Hears, ends_alone};
 ghost use Rattle.server.specs.Replacing.{Crew, Restarts};
+ghost use Rattle.server.specs.Retiring.{AreFirst, Retirements};
 ghost use Rattle.server.specs.Stopping.{IsUntold};
 
 use crate::joining::{wake_all, wake_one};
@@ -88,6 +90,7 @@ where
     requires noted { IsNoted acceptor.old }
     requires carries { Carries Li.given Li.left Li.Link.identity false listeners.old.items listeners.old.items acceptor.old [] }
     requires crew { Crew F.may_serve F.may_leave F.may_ready F.may_init F.may_make Li.Link.identity factory.now (vec_len listeners.old) acceptor.old running.old.items }
+    requires first { AreFirst running.old.items }
     ensures accepts { Accepts Li.given Li.left Li.rest Li.Link.identity Li.ended Li.faults Do.taken Do.count Do.served listeners.old.items listeners.new.items acceptor.old acceptor.new done.old done.new (ends_alone result) }
     ensures crew { Crew F.may_serve F.may_leave F.may_ready F.may_init F.may_make Li.Link.identity factory.now (vec_len listeners.old) acceptor.new running.new.items }
     ensures as_many { length running.new.items ≡ length running.old.items }
@@ -95,6 +98,7 @@ where
     ensures hears { Hears Co.given Co.stops Co.ended acceptor.new commands.old commands.new (shutdown_timeout_of acceptor.old) (Cl.told clock.old) (Cl.told clock.new) }
     ensures room { out_of acceptor.new ≤ Do.spare done.new }
     ensures finished { IfSome result (λ end. (is_stop end ≡ false → all_ready acceptor.new ≡ true) × Ends (MayFault (F.may_ready factory.now) (F.may_init factory.now) (vec_len listeners.old)) acceptor.new end) }
+    ensures alone { result ≡ Some NoWorkers → Retirements (F.may_init factory.now) (vec_len listeners.old) (length running.new.items) 0 (Sp.starts spawner.old, Sp.refusals spawner.old) (Sp.starts spawner.new, Sp.refusals spawner.new) }
     ensures refused { result ≡ None → (all_ready acceptor.new ≡ false) ⊎ (serial_of acceptor.new ≡ 0) }
 {
     let count = listeners.len();
@@ -106,6 +110,10 @@ where
             AcceptTurn::WorkerEnded(w) => {
                 if !acceptor.all_ready() {
                     return None;
+                }
+                // Where nothing is left to do it needs no replacement, and is joined with the others.
+                if acceptor.is_done() {
+                    continue;
                 }
                 if replace_one::<Ho, Li, F, Sp, Do>(
                     rt, alloc, factory, acceptor, w, running, count, spawner, done,
@@ -161,6 +169,7 @@ where
     requires noted { IsNoted acceptor.old }
     requires carries { Carries Li.given Li.left Li.Link.identity false listeners.old.items listeners.old.items acceptor.old [] }
     requires crew { Crew F.may_serve F.may_leave F.may_ready F.may_init F.may_make Li.Link.identity factory.now (vec_len listeners.old) acceptor.old running.old.items }
+    requires first { AreFirst running.old.items }
     ensures accepts { Accepts Li.given Li.left Li.rest Li.Link.identity Li.ended Li.faults Do.taken Do.count Do.served listeners.old.items listeners.new.items acceptor.old acceptor.new done.old done.new (ends_alone result) }
     ensures crew { Crew F.may_serve F.may_leave F.may_ready F.may_init F.may_make Li.Link.identity factory.now (vec_len listeners.old) acceptor.new running.new.items }
     ensures as_many { length running.new.items ≡ length running.old.items }
@@ -168,6 +177,7 @@ where
     ensures hears { Hears Co.given Co.stops Co.ended acceptor.new commands.old commands.new (shutdown_timeout_of acceptor.old) (Cl.told clock.old) (Cl.told clock.new) }
     ensures room { out_of acceptor.new ≤ Do.spare done.new }
     ensures finished { IfSome result (λ end. (is_stop end ≡ false → all_ready acceptor.new ≡ true) × Ends (MayFault (F.may_ready factory.now) (F.may_init factory.now) (vec_len listeners.old)) acceptor.new end) }
+    ensures alone { result ≡ Some NoWorkers → Retirements (F.may_init factory.now) (vec_len listeners.old) (length running.new.items) 0 (Sp.starts spawner.old, Sp.refusals spawner.old) (Sp.starts spawner.new, Sp.refusals spawner.new) }
     ensures refused { result ≡ None → (all_ready acceptor.new ≡ false) ⊎ (serial_of acceptor.new ≡ 0) }
 {
     let mut cx = task.begin();

@@ -1,13 +1,19 @@
 //! How a worker that ended by a fault is joined while the server accepts, and replaced or retired.
-ghost use Rattle.std.specs.Prelude.{◌≡◌, ◌≤◌, ◌<◌, true, false, None, Some, All, length, slice_get, IfSome};
-ghost use Rattle.rtrb.specs.Ring.{IsPair};
+ghost use Rattle.std.specs.Prelude.{◌≡◌, ◌⊎◌, ◌≤◌, ◌<◌, ℕ, true, false, None, Some, All, length, slice_get, sum_by, is_some, IfSome};
+ghost use Rattle.std.specs.List.{list_any};
+ghost use Rattle.rtrb.specs.Ring.{IsPair, known_items};
 ghost use Rattle.server_acceptor.specs.Acceptors.{core_of, out_of, parcels_of, workers_of};
 ghost use Rattle.server_acceptor.specs.Parting.{LeavesRest};
+ghost use Rattle.server_acceptor.specs.Sending.{IsStopped};
+ghost use Rattle.server_core.specs.Core.{in_order};
+ghost use Rattle.server_jobs.specs.Parcels.{is_stop};
 ghost use Rattle.server_jobs.specs.Returning.{entries_of, entry_of_note};
 ghost use Rattle.server_run.specs.Outcome.{is_stopped};
 ghost use Rattle.server_run.specs.Serving.{MayFault};
 ghost use Rattle.server_run.specs.declared.outcome.Outcome.{Outcome as OutcomeOf};
+ghost use Rattle.server_run.specs.declared.outcome.Outcome.TheVariants.{Stopped as StoppedAs};
 ghost use Rattle.server.specs.Replacing.{Crew, Goes, HasFaulted, IsAlone, IsEven, IsLeftHere, IsSuccessor, MayTakeBack, Recalls, Restarts, all_back};
+ghost use Rattle.server.specs.Retiring.{AreRetired, IsUnfaulted, vacancy};
 
 use crate::taking_back::{take_owed, take_parcels, take_rest};
 use server_acceptor::Acceptor;
@@ -20,6 +26,7 @@ use worker_job::{Departure, WorkerJob};
 // How a connection comes back that is left in the ring to a worker that ended by a fault: as any other one does after a stop.
 fn outcome_of_left(stopping: bool, worker: usize) -> Outcome
     ensures stopped { is_stopped result ≡ true → stopping ≡ true }
+    ensures after_stop { stopping ≡ true → result ≡ StoppedAs false }
     ensures left { IsLeftHere worker result }
 {
     if stopping {
@@ -28,6 +35,20 @@ fn outcome_of_left(stopping: bool, worker: usize) -> Outcome
     Outcome::Lost {
         worker: Some(worker),
     }
+}
+
+// Whether none takes the place of a worker that departed so: a stop was left in its ring or taken up, or no service that stood erred.
+fn is_last<E, I>(left: bool, taken_up: bool, departure: &Departure<E, I>) -> bool
+    ensures yes { result ≡ true → (left ≡ true) ⊎ ((taken_up ≡ true) ⊎ IsUnfaulted departure.now) }
+    ensures no { result ≡ false → (left ≡ false) × (taken_up ≡ false) × (IsUnfaulted departure.now → ⊥) }
+{
+    if left {
+        return true;
+    }
+    if taken_up {
+        return true;
+    }
+    !matches!(departure, Departure::Faulted { .. })
 }
 
 // Takes back what a worker had that was joined. The job that takes its place, over the same rings and with the same factory, where one
@@ -60,6 +81,7 @@ where
     ensures recalls { Recalls acceptor.old acceptor.new w handed }
     ensures job { IfSome result (IsSuccessor acceptor.new w handed listeners) }
     ensures calm { (job : _) → result ≡ Some job → (core_of acceptor.new).stopping ≡ None }
+    ensures none { result ≡ None → (is_some (core_of acceptor.new).stopping ≡ true) ⊎ ((list_any is_stop (known_items handed.parcels) ≡ true) ⊎ IsUnfaulted handed.departure) }
 {
     let Handed {
         mut parcels,
@@ -74,7 +96,7 @@ where
     take_rest::<Li, Do>(acceptor, w, &mut notes, &mut rest, done);
     let outcome = outcome_of_left(acceptor.is_stopping(), w);
     let stopped = take_parcels::<Li, Do>(acceptor, w, &mut notes, &mut parcels, outcome, done);
-    if stopped || acceptor.is_stopping() || !matches!(departure, Departure::Faulted { .. }) {
+    if is_last(stopped, acceptor.is_stopping(), &departure) {
         return None;
     }
     acceptor.look_beside::<Li, Do>(w, &mut parcels, &mut notes);
@@ -108,13 +130,18 @@ where
     requires faulted { HasFaulted F.may_serve F.may_leave F.may_ready F.may_init F.may_make Li.Link.identity factory.now listeners acceptor.old w running.old.items }
     requires even { IsEven Li.Link.identity acceptor.old }
     requires spare { out_of acceptor.old ≤ Do.spare done.old }
+    requires told { IsStopped (parcels_of acceptor.old) w → is_some (core_of acceptor.old).stopping ≡ true }
     ensures goes { Goes Li.given Li.left Li.rest Li.Link.identity Li.ended Li.faults Do.taken Do.count Do.served acceptor.old acceptor.new done.old done.new result }
     ensures crew { Crew F.may_serve F.may_leave F.may_ready F.may_init F.may_make Li.Link.identity factory.now listeners acceptor.new running.new.items }
     ensures as_many { length running.new.items ≡ length running.old.items }
     ensures spare { out_of acceptor.new ≤ Do.spare done.new }
     ensures rest { LeavesRest acceptor.old acceptor.new }
     ensures counts { Restarts (MayFault (F.may_ready factory.now) (F.may_init factory.now) listeners) (Sp.starts spawner.old, Sp.refusals spawner.old) (Sp.starts spawner.new, Sp.refusals spawner.new) }
-    ensures last { result ≡ true → IsAlone acceptor.new × MayFault (F.may_ready factory.now) (F.may_init factory.now) listeners }
+    ensures last { result ≡ true → IsAlone acceptor.new × MayFault (F.may_ready factory.now) (F.may_init factory.now) listeners × (sum_by vacancy running.new.items ≡ length running.new.items) }
+    // A job that runs there is in order, and where none does without a stop, it is known why.
+    ensures placed { IfSome (slice_get running.new.items w) (λ now. is_some now ≡ true → in_order (core_of acceptor.new).order w ≡ true) }
+    ensures retires { (before : ℕ × ℕ) → (core_of acceptor.new).stopping ≡ None → AreRetired (F.may_init factory.now) listeners running.old.items before (Sp.starts spawner.old, Sp.refusals spawner.old)
+        → AreRetired (F.may_init factory.now) listeners running.new.items before (Sp.starts spawner.new, Sp.refusals spawner.new) }
 {
     let Some(ended) = running[w].take() else {
         return false;

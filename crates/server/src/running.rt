@@ -4,7 +4,9 @@ ghost use Rattle.service_core.specs.Counts.{Rose};
 ghost use Rattle.server_run.specs.Creating.{HasMeaningOf, IsStartup};
 ghost use Rattle.server_run.specs.Report.{Tells, is_stop};
 ghost use Rattle.server_run.specs.Serving.{MayFault, Untouched};
+ghost use Rattle.server_run.specs.declared.report.End.TheVariants.{NoWorkers};
 ghost use Rattle.server_run.specs.declared.serve_error.ServeError.TheVariants.{NoListener, Spawn};
+ghost use Rattle.server.specs.Retiring.{Retirements};
 ghost use Rattle.server.specs.Settings.{IsInRange};
 ghost use Rattle.server.specs.Starting.{RoseBy, Started};
 ghost use Rattle.server.specs.Stopping.{Gave, IsTold, ServesInTime};
@@ -62,6 +64,7 @@ where
     ensures told { IfOk result (λ report. Tells Li.rest Li.ended Li.faults settings.retry_limit listeners.old.items listeners.new.items report) }
     ensures made { IfOk result (λ report. is_stop report.end ≡ false → (token : ℕ) → token < vec_len listeners.old → F.may_make factory token) }
     ensures started { OnOk result (Started (MayFault (F.may_ready factory) (F.may_init factory) (vec_len listeners.old)) settings.workers (Sp.starts spawner.old) (Sp.starts spawner.new)) }
+    ensures alone { IfOk result (λ report. report.end ≡ NoWorkers → Retirements (F.may_init factory) (vec_len listeners.old) settings.workers 0 (Sp.starts spawner.old + settings.workers, Sp.refusals spawner.old) (Sp.starts spawner.new, Sp.refusals spawner.new)) }
 {
     if listeners.is_empty() {
         return Err(ServeError::NoListener);

@@ -3,7 +3,9 @@ ghost use Rattle.service_core.specs.Counts.{Rose};
 ghost use Rattle.server_run.specs.Creating.{HasMeaningOf, IsStartup};
 ghost use Rattle.server_run.specs.Report.{Tells, is_stop};
 ghost use Rattle.server_run.specs.Serving.{MayFault, Untouched};
+ghost use Rattle.server_run.specs.declared.report.End.TheVariants.{NoWorkers};
 ghost use Rattle.server_run.specs.declared.serve_error.ServeError.TheVariants.{NoListener, Spawn};
+ghost use Rattle.server.specs.Retiring.{Retirements};
 ghost use Rattle.server.specs.Settings.{IsInRange, default_settings};
 ghost use Rattle.server.specs.Starting.{RoseBy, Started};
 ghost use Rattle.server.specs.Stopping.{Gave, IsTold, ServesInTime};
@@ -117,6 +119,9 @@ impl<F> Server<F> {
 
         // As many threads were started as there are workers, and more only where services may fault.
         ensures started { OnOk result (Started (MayFault (F.may_ready (factory_of self)) (F.may_init (factory_of self)) (vec_len listeners.old)) (server_settings self).workers (Sp.starts spawner.old) (Sp.starts spawner.new)) }
+
+        // No worker is left only where for each of them a replacement was refused, or ended itself before its services stood.
+        ensures alone { IfOk result (λ report. report.end ≡ NoWorkers → Retirements (F.may_init (factory_of self)) (vec_len listeners.old) (server_settings self).workers 0 (Sp.starts spawner.old + (server_settings self).workers, Sp.refusals spawner.old) (Sp.starts spawner.new, Sp.refusals spawner.new)) }
     {
         let Server {
             factory,

@@ -5,9 +5,11 @@ ghost use Rattle.server_acceptor.specs.Beginning.{IsNew};
 ghost use Rattle.server_run.specs.Creating.{IsStartup};
 ghost use Rattle.server_run.specs.Report.{Tells, is_stop};
 ghost use Rattle.server_run.specs.Serving.{MayFault, Untouched};
+ghost use Rattle.server_run.specs.declared.report.End.TheVariants.{NoWorkers};
 ghost use Rattle.server_run.specs.declared.serve_error.ServeError.TheVariants.{NoListener, Spawn};
 ghost use Rattle.server.specs.Failing.{IsErrorOf};
 ghost use Rattle.server.specs.Replacing.{Restarts};
+ghost use Rattle.server.specs.Retiring.{Retirements};
 ghost use Rattle.server.specs.Rows.{rows_of};
 ghost use Rattle.server.specs.Starting.{HasStarted};
 ghost use Rattle.server.specs.Stopping.{Gave, IsTold, ServesInTime};
@@ -81,6 +83,7 @@ where
     ensures heard { OnErr result (Gave Co.given Co.stops commands.old commands.new) }
     ensures told { IfOk result (λ report. Tells Li.rest Li.ended Li.faults (retry_limit_of acceptor) listeners.old.items listeners.new.items report) }
     ensures made { IfOk result (λ report. is_stop report.end ≡ false → (token : ℕ) → token < vec_len listeners.old → F.may_make factory.now token) }
+    ensures alone { IfOk result (λ report. report.end ≡ NoWorkers → Retirements (F.may_init factory.now) (vec_len listeners.old) (length running.items) 0 (Sp.starts spawner.old, Sp.refusals spawner.old) (Sp.starts spawner.new, Sp.refusals spawner.new)) }
     ensures counts { Restarts (MayFault (F.may_ready factory.now) (F.may_init factory.now) (vec_len listeners.old)) (Sp.starts spawner.old, Sp.refusals spawner.old) (Sp.starts spawner.new, Sp.refusals spawner.new) }
 {
     let mut acceptor = acceptor;

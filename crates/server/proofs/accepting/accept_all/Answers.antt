@@ -1,8 +1,13 @@
-use Rattle.std.proofs.Common.{◌∙◌, ◌<◌, ◌≤◌, true≢false, refl, ap, rules, subst, sym}
+use Rattle.std.proofs.Common.{◌∙◌, ◌<◌, ◌≤◌, length, true≢false, vec_len, refl, ap, rules, subst, sym}
+use Rattle.server.specs.Accepting.{ends_alone}
 use Rattle.server.specs.Replacing.{Crew, HasFaulted, Restarts}
+use Rattle.server.specs.Retiring.{AreRetired}
+use Rattle.server_acceptor.specs.Acceptors.{core_of}
 use Rattle.server_run.specs.Report.{is_stop}
 use Rattle.server_run.specs.Serving.{MayFault}
 use Rattle.server.proofs.CrewSteps.{crew_turn, even_after, faulted_turn, restarts_none, restarts_same, restarts_trans}
+use Rattle.server.proofs.DoneSteps.{closes_leaves, closes_on, stopped_by_one, unstopped_before}
+use Rattle.server.proofs.RetireSteps.{all_retired_now, first_retired, retired_on}
 use Rattle.server.proofs.HearSteps.{hears_leaves, hears_more, hears_none}
 use Rattle.server.proofs.TurnSteps.{accepts_as, accepts_more, accepts_none, can_accept_leaves, can_accept_on, ends_so, not_alone}
 use Rattle.server.proofs.accepting.accept_all.Goals as goal
@@ -15,6 +20,20 @@ loop-init g c = (
   hears_none g.Co.Commands.given g.Co.Commands.stops g.Co.Commands.ended _ c.args.acceptor.now _ c.requires.fresh,
   c.requires.crew,
   refl,
+  λ w is. absurd (c.requires.fresh.none_sent w is),
+  λ calm. first_retired (g.F.ServerServiceFactory.may_init c.args.factory.now) _ c.args.running.now.items _ c.requires.first,
+)
+
+pub loop-preserved-then-is_done : goal.loop-preserved-then-is_done
+loop-preserved-then-is_done g c = (
+  accepts_more g.Li.Listener.given g.Li.Listener.left g.Li.Listener.rest g.Li.Link.Link.identity g.Li.Listener.ended g.Li.Listener.faults g.Do.Done.taken g.Do.Done.count g.Do.Done.served _ _ _ c.args.acceptor.now c.loop.acceptor c.turn-turned.new.self _ _ _ _ _ c.loop.invariant.0 c.turn-turned.ensures.does.acts,
+  can_accept_on g.Li.Listener.given g.Li.Listener.left g.Li.Listener.rest g.Li.Link.Link.identity g.Li.Listener.ended g.Li.Listener.faults g.Do.Done.taken g.Do.Done.count g.Do.Done.served _ _ c.loop.acceptor c.turn-turned.new.self _ _ _ _ _ _ c.loop.invariant.1 c.turn-turned.ensures.does.acts c.turn-turned.ensures.given c.turn-turned.ensures.spare,
+  restarts_same (MayFault (g.F.ServerServiceFactory.may_ready c.args.factory.now) (g.F.ServerServiceFactory.may_init c.args.factory.now) _) _ _ _ c.loop.invariant.2 c.wake.ensures,
+  hears_more g.Co.Commands.given g.Co.Commands.stops g.Co.Commands.idles g.Co.Commands.ended _ _ _ c.loop.acceptor c.turn-turned.new.self _ _ _ c.loop.invariant.3 c.turn-turned.ensures.takes c.turn-turned.ensures.does.acts.logged.core c.turn-turned.ensures.onward c.turn-turned.ensures.timeout c.turn-turned.ensures.stop c.turn-turned.ensures.forces,
+  crew_turn g.Li.Listener.given g.Li.Listener.left g.Li.Listener.rest g.Li.Link.Link.identity g.Li.Listener.ended g.Li.Listener.faults g.Do.Done.taken g.Do.Done.count g.Do.Done.served g.F.ServerServiceFactory.may_serve g.F.ServerServiceFactory.may_leave g.F.ServerServiceFactory.may_ready g.F.ServerServiceFactory.may_init g.F.ServerServiceFactory.may_make c.args.factory.now _ _ _ c.loop.acceptor c.turn-turned.new.self _ _ _ _ c.turn-turned.ensures.does (even_after g.Li.Listener.given g.Li.Listener.left g.Li.Listener.rest g.Li.Link.Link.identity g.Li.Listener.ended g.Li.Listener.faults g.Do.Done.taken g.Do.Done.count g.Do.Done.served _ _ c.args.acceptor.now c.turn-turned.new.self _ _ c.requires.carries (accepts_more g.Li.Listener.given g.Li.Listener.left g.Li.Listener.rest g.Li.Link.Link.identity g.Li.Listener.ended g.Li.Listener.faults g.Do.Done.taken g.Do.Done.count g.Do.Done.served _ _ _ c.args.acceptor.now c.loop.acceptor c.turn-turned.new.self _ _ _ _ _ c.loop.invariant.0 c.turn-turned.ensures.does.acts)) c.loop.invariant.4,
+  c.loop.invariant.5,
+  closes_on g.Li.Listener.given g.Li.Listener.left g.Li.Listener.rest g.Li.Link.Link.identity g.Li.Listener.ended g.Li.Listener.faults g.Do.Done.taken g.Do.Done.count g.Do.Done.served _ _ c.loop.acceptor c.turn-turned.new.self _ _ _ _ c.turn-turned.ensures.does.acts c.loop.invariant.1.as_many (λ lacks. ap (λ v. v.items) (c.turn-turned.ensures.short lacks)) c.turn-turned.ensures.closes c.loop.invariant.6,
+  λ calm. retired_on (g.F.ServerServiceFactory.may_init c.args.factory.now) (vec_len c.args.listeners.now) c.loop.running.items (g.Sp.Spawner.starts c.args.spawner.now, g.Sp.Spawner.refusals c.args.spawner.now) (g.Sp.Spawner.starts c.loop.spawner, g.Sp.Spawner.refusals c.loop.spawner) _ (c.loop.invariant.7 (unstopped_before (core_of c.loop.acceptor).stopping (core_of c.turn-turned.new.self).stopping c.turn-turned.ensures.does.acts.stops calm)) c.wake.ensures,
 )
 
 pub loop-preserved-in-Going : goal.loop-preserved-in-Going
@@ -25,6 +44,8 @@ loop-preserved-in-Going g c = (
   hears_more g.Co.Commands.given g.Co.Commands.stops g.Co.Commands.idles g.Co.Commands.ended _ _ _ c.loop.acceptor c.turn-turned.new.self _ _ _ c.loop.invariant.3 c.turn-turned.ensures.takes c.turn-turned.ensures.does.acts.logged.core c.turn-turned.ensures.onward c.turn-turned.ensures.timeout c.turn-turned.ensures.stop c.turn-turned.ensures.forces,
   crew_turn g.Li.Listener.given g.Li.Listener.left g.Li.Listener.rest g.Li.Link.Link.identity g.Li.Listener.ended g.Li.Listener.faults g.Do.Done.taken g.Do.Done.count g.Do.Done.served g.F.ServerServiceFactory.may_serve g.F.ServerServiceFactory.may_leave g.F.ServerServiceFactory.may_ready g.F.ServerServiceFactory.may_init g.F.ServerServiceFactory.may_make c.args.factory.now _ _ _ c.loop.acceptor c.turn-turned.new.self _ _ _ _ c.turn-turned.ensures.does (even_after g.Li.Listener.given g.Li.Listener.left g.Li.Listener.rest g.Li.Link.Link.identity g.Li.Listener.ended g.Li.Listener.faults g.Do.Done.taken g.Do.Done.count g.Do.Done.served _ _ c.args.acceptor.now c.turn-turned.new.self _ _ c.requires.carries (accepts_more g.Li.Listener.given g.Li.Listener.left g.Li.Listener.rest g.Li.Link.Link.identity g.Li.Listener.ended g.Li.Listener.faults g.Do.Done.taken g.Do.Done.count g.Do.Done.served _ _ _ c.args.acceptor.now c.loop.acceptor c.turn-turned.new.self _ _ _ _ _ c.loop.invariant.0 c.turn-turned.ensures.does.acts)) c.loop.invariant.4,
   c.loop.invariant.5,
+  closes_on g.Li.Listener.given g.Li.Listener.left g.Li.Listener.rest g.Li.Link.Link.identity g.Li.Listener.ended g.Li.Listener.faults g.Do.Done.taken g.Do.Done.count g.Do.Done.served _ _ c.loop.acceptor c.turn-turned.new.self _ _ _ _ c.turn-turned.ensures.does.acts c.loop.invariant.1.as_many (λ lacks. ap (λ v. v.items) (c.turn-turned.ensures.short lacks)) c.turn-turned.ensures.closes c.loop.invariant.6,
+  λ calm. retired_on (g.F.ServerServiceFactory.may_init c.args.factory.now) (vec_len c.args.listeners.now) c.loop.running.items (g.Sp.Spawner.starts c.args.spawner.now, g.Sp.Spawner.refusals c.args.spawner.now) (g.Sp.Spawner.starts c.loop.spawner, g.Sp.Spawner.refusals c.loop.spawner) _ (c.loop.invariant.7 (unstopped_before (core_of c.loop.acceptor).stopping (core_of c.turn-turned.new.self).stopping c.turn-turned.ensures.does.acts.stops calm)) (c.rest_for.ensures ∙ c.wake.ensures),
 )
 
 pub returns-then-not-all_ready-clause-accepts : goal.returns-then-not-all_ready-clause-accepts
@@ -144,6 +165,11 @@ loop-preserved g c = (
   hears_leaves g.Co.Commands.given g.Co.Commands.stops g.Co.Commands.ended _ _ c.turn-turned.new.self c.replace_one.new.acceptor _ _ _ (hears_more g.Co.Commands.given g.Co.Commands.stops g.Co.Commands.idles g.Co.Commands.ended _ _ _ c.loop.acceptor c.turn-turned.new.self _ _ _ c.loop.invariant.3 c.turn-turned.ensures.takes c.turn-turned.ensures.does.acts.logged.core c.turn-turned.ensures.onward c.turn-turned.ensures.timeout c.turn-turned.ensures.stop c.turn-turned.ensures.forces) c.replace_one.ensures.rest,
   subst (λ k. Crew g.F.ServerServiceFactory.may_serve g.F.ServerServiceFactory.may_leave g.F.ServerServiceFactory.may_ready g.F.ServerServiceFactory.may_init g.F.ServerServiceFactory.may_make g.Li.Link.Link.identity c.args.factory.now k c.replace_one.new.acceptor c.replace_one.new.running.items) c.len-count.ensures c.replace_one.ensures.crew,
   c.replace_one.ensures.as_many ∙ c.loop.invariant.5,
+  closes_leaves c.turn-turned.new.self c.replace_one.new.acceptor c.replace_one.ensures.rest (closes_on g.Li.Listener.given g.Li.Listener.left g.Li.Listener.rest g.Li.Link.Link.identity g.Li.Listener.ended g.Li.Listener.faults g.Do.Done.taken g.Do.Done.count g.Do.Done.served _ _ c.loop.acceptor c.turn-turned.new.self _ _ _ _ c.turn-turned.ensures.does.acts c.loop.invariant.1.as_many (λ lacks. ap (λ v. v.items) (c.turn-turned.ensures.short lacks)) c.turn-turned.ensures.closes c.loop.invariant.6) (c.is_done.ensures.no c.if-is_done.false),
+  λ calm. subst (λ k. AreRetired (g.F.ServerServiceFactory.may_init c.args.factory.now) k c.replace_one.new.running.items (g.Sp.Spawner.starts c.args.spawner.now, g.Sp.Spawner.refusals c.args.spawner.now) (g.Sp.Spawner.starts c.replace_one.new.spawner, g.Sp.Spawner.refusals c.replace_one.new.spawner)) c.len-count.ensures
+      (c.replace_one.ensures.retires (g.Sp.Spawner.starts c.args.spawner.now, g.Sp.Spawner.refusals c.args.spawner.now) calm
+      (subst (λ k. AreRetired (g.F.ServerServiceFactory.may_init c.args.factory.now) k c.loop.running.items (g.Sp.Spawner.starts c.args.spawner.now, g.Sp.Spawner.refusals c.args.spawner.now) (g.Sp.Spawner.starts c.wake.new.spawner, g.Sp.Spawner.refusals c.wake.new.spawner)) (sym c.len-count.ensures)
+      (retired_on (g.F.ServerServiceFactory.may_init c.args.factory.now) (vec_len c.args.listeners.now) c.loop.running.items (g.Sp.Spawner.starts c.args.spawner.now, g.Sp.Spawner.refusals c.args.spawner.now) (g.Sp.Spawner.starts c.loop.spawner, g.Sp.Spawner.refusals c.loop.spawner) _ (c.loop.invariant.7 (unstopped_before (core_of c.loop.acceptor).stopping (core_of c.turn-turned.new.self).stopping c.turn-turned.ensures.does.acts.stops (sym c.replace_one.ensures.rest.stopping ∙ calm))) c.wake.ensures))),
 )
 
 pub returns-in-Stopped-clause-finished : goal.returns-in-Stopped-clause-finished
@@ -157,3 +183,22 @@ returns-in-Finished-clause-finished g c = (
   λ calm. search rules,
   ends_so _ c.turn-turned.new.self c.in-Finished.end (c.turn-turned.ensures.finished c.in-Finished.end c.in-Finished.is),
 )
+
+pub replace_one-requires-clause-told : goal.replace_one-requires-clause-told
+replace_one-requires-clause-told g c κs within is = stopped_by_one c.turn-turned.new.self c.in-WorkerEnded.w (closes_on g.Li.Listener.given g.Li.Listener.left g.Li.Listener.rest g.Li.Link.Link.identity g.Li.Listener.ended g.Li.Listener.faults g.Do.Done.taken g.Do.Done.count g.Do.Done.served _ _ c.loop.acceptor c.turn-turned.new.self _ _ _ _ c.turn-turned.ensures.does.acts c.loop.invariant.1.as_many (λ lacks. ap (λ v. v.items) (c.turn-turned.ensures.short lacks)) c.turn-turned.ensures.closes c.loop.invariant.6) (c.is_done.ensures.no c.if-is_done.false) is
+
+pub returns-then-replace_one-clause-alone : goal.returns-then-replace_one-clause-alone
+returns-then-replace_one-clause-alone g c is =
+    let last = c.replace_one.ensures.last c.if-replace_one.true in
+    let calm = last.0.unstopped in
+    all_retired_now (g.F.ServerServiceFactory.may_init c.args.factory.now) (vec_len c.args.listeners.now) c.replace_one.new.running.items (length c.replace_one.new.running.items) (g.Sp.Spawner.starts c.args.spawner.now, g.Sp.Spawner.refusals c.args.spawner.now) (g.Sp.Spawner.starts c.replace_one.new.spawner, g.Sp.Spawner.refusals c.replace_one.new.spawner) last.2 refl
+    (subst (λ k. AreRetired (g.F.ServerServiceFactory.may_init c.args.factory.now) k c.replace_one.new.running.items (g.Sp.Spawner.starts c.args.spawner.now, g.Sp.Spawner.refusals c.args.spawner.now) (g.Sp.Spawner.starts c.replace_one.new.spawner, g.Sp.Spawner.refusals c.replace_one.new.spawner)) c.len-count.ensures
+    (c.replace_one.ensures.retires (g.Sp.Spawner.starts c.args.spawner.now, g.Sp.Spawner.refusals c.args.spawner.now) calm
+    (subst (λ k. AreRetired (g.F.ServerServiceFactory.may_init c.args.factory.now) k c.loop.running.items (g.Sp.Spawner.starts c.args.spawner.now, g.Sp.Spawner.refusals c.args.spawner.now) (g.Sp.Spawner.starts c.wake.new.spawner, g.Sp.Spawner.refusals c.wake.new.spawner)) (sym c.len-count.ensures)
+    (retired_on (g.F.ServerServiceFactory.may_init c.args.factory.now) (vec_len c.args.listeners.now) c.loop.running.items (g.Sp.Spawner.starts c.args.spawner.now, g.Sp.Spawner.refusals c.args.spawner.now) (g.Sp.Spawner.starts c.loop.spawner, g.Sp.Spawner.refusals c.loop.spawner) _ (c.loop.invariant.7 (unstopped_before (core_of c.loop.acceptor).stopping (core_of c.turn-turned.new.self).stopping c.turn-turned.ensures.does.acts.stops (sym c.replace_one.ensures.rest.stopping ∙ calm))) c.wake.ensures))))
+
+pub returns-in-Stopped-clause-alone : goal.returns-in-Stopped-clause-alone
+returns-in-Stopped-clause-alone g c is = absurd (true≢false (sym (ap ends_alone is) ∙ not_alone c.turn-turned.new.self c.in-Finished.end (c.turn-turned.ensures.finished c.in-Finished.end c.in-Finished.is)))
+
+pub returns-in-Finished-clause-alone : goal.returns-in-Finished-clause-alone
+returns-in-Finished-clause-alone g c is = absurd (true≢false (sym (ap ends_alone is) ∙ not_alone c.turn-turned.new.self c.in-Finished.end (c.turn-turned.ensures.finished c.in-Finished.end c.in-Finished.is)))

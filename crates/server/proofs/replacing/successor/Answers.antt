@@ -1,4 +1,4 @@
-use Rattle.std.proofs.Common.{rules, ◌∙◌, ◌<◌, [], false, ap, length, subst, sym}
+use Rattle.std.proofs.Common.{rules, inl, inr, ◌∙◌, ◌<◌, [], false, ap, length, subst, sym}
 use Rattle.server_core.specs.Core.{Core}
 use Rattle.server_jobs.specs.Returning.{entries_of, entry_of_waiting}
 use Rattle.server_run.specs.declared.outcome.Outcome.TheVariants.{Memory}
@@ -21,12 +21,12 @@ pub take_parcels-stopped-requires-clause-may : goal.take_parcels-stopped-require
 take_parcels-stopped-requires-clause-may g c =
     may_left c.args.acceptor.now c.args.w c.args.handed c.requires.may c.take_owed.new.acceptor c.take_owed.new.notes c.take_owed.ensures.takes c.take_rest.new.acceptor c.take_rest.new.notes (subst (λ xs. TakesBack c.take_owed.new.acceptor c.take_rest.new.acceptor c.args.w c.take_owed.new.notes c.take_rest.new.notes (entries_of (entry_of_waiting c.args.w) xs)) c.into_iter-rest.ensures.rest c.take_rest.ensures.takes) c.outcome_of_left-outcome.result
 
-pub returns-then-stopped-clause-goes : goal.returns-then-stopped-clause-goes
-returns-then-stopped-clause-goes g c =
+pub returns-then-is_last-clause-goes : goal.returns-then-is_last-clause-goes
+returns-then-is_last-clause-goes g c =
     goes_trans g.Li.Listener.given g.Li.Listener.left g.Li.Listener.rest g.Li.Link.Link.identity g.Li.Listener.ended g.Li.Listener.faults g.Do.Done.taken g.Do.Done.count g.Do.Done.served c.args.acceptor.now c.take_rest.new.acceptor c.take_parcels-stopped.new.acceptor _ c.take_rest.new.done _ false (goes_trans g.Li.Listener.given g.Li.Listener.left g.Li.Listener.rest g.Li.Link.Link.identity g.Li.Listener.ended g.Li.Listener.faults g.Do.Done.taken g.Do.Done.count g.Do.Done.served c.args.acceptor.now c.take_owed.new.acceptor c.take_rest.new.acceptor _ c.take_owed.new.done _ false c.take_owed.ensures.goes c.take_rest.ensures.goes) c.take_parcels-stopped.ensures.goes
 
-pub returns-then-stopped-clause-recalls : goal.returns-then-stopped-clause-recalls
-returns-then-stopped-clause-recalls g c =
+pub returns-then-is_last-clause-recalls : goal.returns-then-is_last-clause-recalls
+returns-then-is_last-clause-recalls g c =
     recalled c.args.acceptor.now c.args.w c.args.handed c.requires.may c.take_owed.new.acceptor c.take_owed.new.notes c.take_owed.ensures.takes c.take_rest.new.acceptor c.take_rest.new.notes (subst (λ xs. TakesBack c.take_owed.new.acceptor c.take_rest.new.acceptor c.args.w c.take_owed.new.notes c.take_rest.new.notes (entries_of (entry_of_waiting c.args.w) xs)) c.into_iter-rest.ensures.rest c.take_rest.ensures.takes) c.outcome_of_left-outcome.result c.take_parcels-stopped.new.acceptor c.take_parcels-stopped.new.notes c.outcome_of_left-outcome.ensures.left c.take_parcels-stopped.ensures.takes
 
 pub look_beside-requires-clause-number : goal.look_beside-requires-clause-number
@@ -57,7 +57,16 @@ returns-clause-job g c =
     let recalls = recalled c.args.acceptor.now c.args.w c.args.handed c.requires.may c.take_owed.new.acceptor c.take_owed.new.notes c.take_owed.ensures.takes c.take_rest.new.acceptor c.take_rest.new.notes (subst (λ xs. TakesBack c.take_owed.new.acceptor c.take_rest.new.acceptor c.args.w c.take_owed.new.notes c.take_rest.new.notes (entries_of (entry_of_waiting c.args.w) xs)) c.into_iter-rest.ensures.rest c.take_rest.ensures.takes) c.outcome_of_left-outcome.result c.take_parcels-stopped.new.acceptor c.take_parcels-stopped.new.notes c.outcome_of_left-outcome.ensures.left c.take_parcels-stopped.ensures.takes in
     succeeds c.args.acceptor.now c.take_parcels-stopped.new.acceptor c.look_beside.new.self c.args.w c.args.listeners c.args.handed recalls c.take_parcels-stopped.new.parcels c.look_beside.new.parcels c.look_beside.new.notes c.new.result
     (c.requires.may Memory).place c.take_parcels-stopped.ensures.same c.take_parcels-stopped.ensures.taken c.look_beside.ensures.parcels c.look_beside.ensures.notes c.look_beside.ensures.received c.look_beside.ensures.pair_from c.look_beside.ensures.free
-    (sym c.take_parcels-stopped.ensures.stop ∙ c.if-stopped.false) c.new.ensures.parcels c.new.ensures.notes c.new.ensures.factory c.new.ensures.listeners
+    (sym c.take_parcels-stopped.ensures.stop ∙ (c.is_last.ensures.no c.if-is_last.false).0) c.new.ensures.parcels c.new.ensures.notes c.new.ensures.factory c.new.ensures.listeners
 
 pub returns-clause-calm : goal.returns-clause-calm
 returns-clause-calm g c job is = ap (λ (s : Core). s.stopping) c.look_beside.ensures.core ∙ none_from _ (search rules)
+
+pub returns-then-is_last-clause-none : goal.returns-then-is_last-clause-none
+returns-then-is_last-clause-none g c is = elim (c.is_last.ensures.yes c.if-is_last.true) [
+  | inl left ↦ inr (inl (sym c.take_parcels-stopped.ensures.stop ∙ left))
+  | inr other ↦ elim other [
+    | inl stopping ↦ inl (sym c.is_stopping-2.ensures ∙ stopping)
+    | inr unfaulted ↦ inr (inr unfaulted)
+  ]
+]

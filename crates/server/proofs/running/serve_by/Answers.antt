@@ -1,5 +1,6 @@
 use Rattle.std.proofs.Common.{◌∙◌, All, length, refl, ap, rules, subst, sym}
 use Rattle.server.proofs.HearSteps.{gave_none, gave_on}
+use Rattle.server.proofs.RetireSteps.{alone_since}
 use Rattle.server.proofs.Rows.{started_join}
 use Rattle.server.proofs.Starts.{as_many_rings, not_told}
 use Rattle.server.specs.Rows.{rows_of}
@@ -38,3 +39,8 @@ serve_on-requires-clause-started g c κs within =
     (subst (λ ps. All (HasStarted g.F.ServerServiceFactory.may_serve g.F.ServerServiceFactory.may_leave g.F.ServerServiceFactory.may_ready g.F.ServerServiceFactory.may_init g.F.ServerServiceFactory.may_make g.Li.Link.Link.identity (length started.new.running.items) c.args.factory c.len-count.result) (rows_of ps (notes_of c.with_room-acceptor.result) started.new.running.items)) (sym new.producers)
     (subst (λ ns. All (HasStarted g.F.ServerServiceFactory.may_serve g.F.ServerServiceFactory.may_leave g.F.ServerServiceFactory.may_ready g.F.ServerServiceFactory.may_init g.F.ServerServiceFactory.may_make g.Li.Link.Link.identity (length started.new.running.items) c.args.factory c.len-count.result) (rows_of started.new.parcels.items ns started.new.running.items)) (sym new.consumers)
     (subst (λ n. All (HasStarted g.F.ServerServiceFactory.may_serve g.F.ServerServiceFactory.may_leave g.F.ServerServiceFactory.may_ready g.F.ServerServiceFactory.may_init g.F.ServerServiceFactory.may_make g.Li.Link.Link.identity n c.args.factory c.len-count.result) (rows_of started.new.parcels.items started.new.notes.items started.new.running.items)) (sym (started.ensures.all (search rules))) started.ensures.started)))
+
+pub returns-clause-alone : goal.returns-clause-alone
+returns-clause-alone g c =
+    alone_since (g.F.ServerServiceFactory.may_init c.args.factory) _ _ _ (g.Sp.Spawner.starts c.args.spawner.now, g.Sp.Spawner.refusals c.args.spawner.now) (g.Sp.Spawner.starts c.start_workers-fault.new.spawner, g.Sp.Spawner.refusals c.start_workers-fault.new.spawner) _ c.serve_on.result
+    (c.start_workers-fault.ensures.all (search rules)) c.start_workers-fault.ensures.begun (c.start_workers-fault.ensures.unrefused (search rules)) c.serve_on.ensures.alone

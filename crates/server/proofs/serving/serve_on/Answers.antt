@@ -1,12 +1,14 @@
-use Rattle.std.proofs.Common.{◌≡◌, ◌≤◌, ◌+◌, All, false, true, map, sum_by, subst, sym, ap, ◌∙◌, arith}
+use Rattle.std.proofs.Common.{◌≡◌, ◌≤◌, ◌+◌, All, Some, false, length, true, vec_len, map, sum_by, subst, sym, ap, ◌∙◌, arith}
 use Rattle.std.specs.Prelude.{slice_index_or}
-use Rattle.server_acceptor.specs.Acceptors.{parcels_of}
+use Rattle.server_acceptor.specs.Acceptors.{notes_of, parcels_of}
 use Rattle.server_acceptor.specs.Rings.{ring_in, ring_out}
 use Rattle.server.proofs.CrewSteps.{crew_start}
 use Rattle.server.proofs.FinishSteps.{fewer_after, in_time_all, joins_after, made_all, many_after, none_of, none_received_yet, none_sent_yet, refuses, room_after, startup_is, tells_run, unmarked, untold_start}
 use Rattle.server.proofs.HearSteps.{gave, is_told}
+use Rattle.server.proofs.RetireSteps.{first_started}
 use Rattle.server.proofs.StartSteps.{carries_start}
 use Rattle.server.specs.Accepting.{ends_alone}
+use Rattle.server.specs.Retiring.{Retirements}
 use Rattle.server.specs.Returning.{many_back, many_put}
 use Rattle.server.specs.Rows.{rows_of}
 use Rattle.server.proofs.serving.serve_on.Goals as goal
@@ -112,3 +114,14 @@ returns-clause-made g c unstopped =
     c.args.factory.now _ _ _ _ _ _ c.args.acceptor c.accept_on-end.new.acceptor c.args.running.items c.accept_on-end.new.running.items _ _ c.requires.fresh c.requires.as_many c.requires.started _ c.accept_on-end.ensures.accepts c.accept_on-end.ensures.crew c.accept_on-end.ensures.as_many
     g.Do.Done.spare c.into_rings-parcels-2.result.0.items c.into_rings-parcels-2.result.1.items c.into_rings-parcels-2.ensures.0 c.into_rings-parcels-2.ensures.1 c.return_all.new.done c.in-Some.end c.in-Some.ensures.finished.1 (ap ends_alone c.in-Some.is) c.return_all.ensures
     (omega (arith, c.requires.some.0, c.args.running.ok.0)) (c.in-Some.ensures.finished.0 unstopped)
+
+pub accept_on-end-requires-clause-first : goal.accept_on-end-requires-clause-first
+accept_on-end-requires-clause-first g c κs within =
+    first_started g.F.ServerServiceFactory.may_serve g.F.ServerServiceFactory.may_leave g.F.ServerServiceFactory.may_ready g.F.ServerServiceFactory.may_init g.F.ServerServiceFactory.may_make
+    g.Li.Link.Link.identity _ _ _ (parcels_of c.args.acceptor) (notes_of c.args.acceptor) c.args.running.items c.requires.as_many c.requires.started
+
+pub returns-clause-alone : goal.returns-clause-alone
+returns-clause-alone g c is =
+    subst (Retirements (g.F.ServerServiceFactory.may_init c.args.factory.now) (vec_len c.args.listeners.now) (length c.args.running.items) 0 (g.Sp.Spawner.starts c.args.spawner.now, g.Sp.Spawner.refusals c.args.spawner.now)) (sym c.wake_all-2.ensures)
+    (subst (λ n. Retirements (g.F.ServerServiceFactory.may_init c.args.factory.now) (vec_len c.args.listeners.now) n 0 (g.Sp.Spawner.starts c.args.spawner.now, g.Sp.Spawner.refusals c.args.spawner.now) (g.Sp.Spawner.starts c.accept_on-end.new.spawner, g.Sp.Spawner.refusals c.accept_on-end.new.spawner)) c.accept_on-end.ensures.as_many
+    (c.accept_on-end.ensures.alone (c.in-Some.is ∙ ap (λ e. Some e) is)))
