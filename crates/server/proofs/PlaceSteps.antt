@@ -1,6 +1,6 @@
 -- The workers of a run once the job of one was joined, and it was replaced or retired.
 use Rattle.std.proofs.Common.{◌≡◌, ◌≢◌, ◌≤◌, ◌<◌, ◌++◌, ◌∷◌, [], ℕ, zero, suc, ◌+◌, Bool, true, false, true≢false, List, All, Contains, Option, None, Some, IfSome, length, map, slice_get, slice_index, sum_by, refl, sym, ◌∙◌, ap, arith, subst, inl, inr, get_or-set_other, length-set}
-use Rattle.std.specs.Prelude.{◌==◌, ◌||◌, ◌-◌, ◌^◌, cond, count_by, is_some, min, nat_eq, nat_lt, slice_index_or, slice_set, sum}
+use Rattle.std.specs.Prelude.{◌==◌, ◌||◌, ◌-◌, ◌^◌, cond, count_by, is_some, min, nat_lt, slice_index_or, slice_set, sum}
 use Rattle.std.specs.List.{list_any, range_with_len}
 use Rattle.std.specs.FinSet as set
 use Rattle.std.specs.Option.{option_map_or}

@@ -1,6 +1,6 @@
 -- Why places come to have no worker, one after another.
 use Rattle.std.proofs.Common.{◌≡◌, ◌≤◌, ◌<◌, ◌∷◌, [], ℕ, zero, suc, ◌+◌, List, All, Option, None, Some, length, slice_get, sum_by, refl, sym, ◌∙◌, ap, arith, subst, get_or-set_same, length-set}
-use Rattle.std.specs.Prelude.{◌-◌, ◌^◌, Err, IfOk, Ok, Result, min, slice_set}
+use Rattle.std.specs.Prelude.{◌-◌, Err, IfOk, Ok, Result, slice_set}
 use Rattle.std.proofs.lemmas.List.Elements.{All-cons, All-head, All-nil, All-tail}
 use Rattle.std.proofs.lemmas.List.Sums.{sum_by-cons}
 use Rattle.std.proofs.lemmas.Option.{slice_get-get_or}
@@ -177,7 +177,7 @@ first_started may_serve may_leave may_ready may_init may_make identity workers f
 first_started {L = L} {F = F} {O = O} may_serve may_leave may_ready may_init may_make identity workers factory listeners (p ∷ ps) (n ∷ ns) (r ∷ rs) as_many started =
     let here = by_running r (All-head (HasStarted may_serve may_leave may_ready may_init may_make identity workers factory listeners) (record { parcels = p; notes = n; running = r }) (rows_of ps ns rs) started) in
     let rest = first_started may_serve may_leave may_ready may_init may_make identity workers factory listeners ps ns rs ((let m = as_many.0 in omega (arith, m)), (let m = as_many.1 in omega (arith, m)))
-        (All-tail (HasStarted may_serve may_leave may_ready may_init may_make identity workers factory listeners) (record { parcels = p; notes = n; running = r }) (rows_of ps ns rs) started) in
+    (All-tail (HasStarted may_serve may_leave may_ready may_init may_make identity workers factory listeners) (record { parcels = p; notes = n; running = r }) (rows_of ps ns rs) started) in
     let vacant = rest.none_vacant in
     let replaced = rest.none_replaced in
     record {

@@ -64,9 +64,10 @@ impl<F> Server<F> {
     /// After an error too the replies to the commands that came until then are ready.
     ///
     /// A worker of which a service errs and cannot be made anew is joined while the server accepts: what had ended there is handed
-    /// on, and the rest as lost by it. Another thread takes its place, with the same number; where a stop came, or none can be
-    /// started, the worker is retired. Once none is left, and no stop came, the run ends as [`End::NoWorkers`](server_run::End), and
-    /// a connection that waited is handed on as lost with no worker.
+    /// on, and the rest as lost by it. Another thread takes its place, with the same number; where a stop came, where none can be
+    /// started, or where its own services never stood, the worker is retired. Once none is left, and no stop came, the run ends as
+    /// [`End::NoWorkers`](server_run::End), and a connection that waited is handed on as lost with no worker. Where nothing is left
+    /// to do none is replaced: all are joined then.
     ///
     /// It waits for its threads, and they for the links. Of a listener that tells nothing of the links still to come (its
     /// `left` is `None`) `serves` holds little: how many entries there are, their numbers, and that each has some link as it

@@ -73,7 +73,7 @@ returns-in_default-successor-clause-last g c is = (
         (subst (λ x. HandsOver g.Li.Link.Link.identity g.F.ServerServiceFactory.may_serve g.F.ServerServiceFactory.may_leave g.F.ServerServiceFactory.may_ready g.F.ServerServiceFactory.may_init g.F.ServerServiceFactory.may_make (job_of c.in-Some.ended) x) (sym c.into_handed-handed.ensures) c.join.ensures)
         c.look_beside.ensures.parcels c.look_beside.ensures.notes (refl, refl, refl, refl) c.look_beside.ensures.to_it c.look_beside.ensures.from_it c.look_beside.ensures.pair_from
         c.successor.new.acceptor c.retire.new.self c.successor.ensures.recalls (keeps_rings c.args.w c.successor.new.acceptor c.retire.new.self c.retire.ensures.parcels c.retire.ensures.notes (λ v other off. ap (λ o. in_order o v) c.retire.ensures.order ∙ off) c.retire.ensures.others) (ap (λ ns. received_at ns c.args.w) c.retire.ensures.notes) (slice_set c.args.running.now.items c.args.w c.take.new.self) (length-set c.args.running.now.items c.args.w c.take.new.self) (λ v other. get_elsewhere c.args.running.now.items c.args.w v c.take.new.self other) (get_here c.args.running.now.items c.args.w c.take.new.self (omega (arith, c.requires.crew.as_many.0, c.args.acceptor.now.workers.0, c.requires.number.0)) ∙ ap (λ x. Some x) c.take.ensures.after) (ap (λ o. in_order o c.args.w) (c.retire.ensures.order ∙ c.successor.ensures.recalls.takes.order) ∙ (ap (λ (s : Core). in_order s.order c.args.w) c.look_beside.ensures.core ∙ c.leave.ensures.left))
-    (gone_now c.args.w (core_of c.successor.new.acceptor) (core_of c.retire.new.self) (may_return_now (core_of c.successor.new.acceptor) c.args.w (subst (λ k. c.args.w < k) (sym (c.successor.ensures.recalls.takes.rest.workers ∙ c.look_beside.ensures.rest.workers ∙ c.leave.ensures.rest.workers)) c.requires.number.0) (ap (λ o. in_order o c.args.w) c.successor.ensures.recalls.takes.order ∙ (ap (λ (s : Core). in_order s.order c.args.w) c.look_beside.ensures.core ∙ c.leave.ensures.left)) (ap (λ x. set.contains x c.args.w) (c.successor.ensures.recalls.takes.retired ∙ ap (λ (s : Core). s.retired) c.look_beside.ensures.core ∙ c.leave.ensures.retired) ∙ kept_first g.F.ServerServiceFactory.may_serve g.F.ServerServiceFactory.may_leave g.F.ServerServiceFactory.may_ready g.F.ServerServiceFactory.may_init g.F.ServerServiceFactory.may_make g.Li.Link.Link.identity c.args.factory.now c.args.listeners c.args.acceptor.now c.look_beside.new.self c.args.w c.args.running.now.items c.in-Some.ended c.requires.crew c.requires.faulted c.requires.even (at_taken c.args.running.now.items c.args.w c.index_mut.result.now (omega (arith, c.requires.crew.as_many.0, c.args.acceptor.now.workers.0, c.requires.number.0)) c.index_mut.ensures.value ∙ ap (λ x. Some x) (sym c.take.ensures.value ∙ c.in-Some.is)) (keeps_left c.args.w c.args.acceptor.now c.leave.new.self c.look_beside.new.self c.leave.ensures.parcels c.leave.ensures.notes c.leave.ensures.others c.leave.ensures.retired (c.look_beside.ensures.acts [] c.args.done.now).rings.parcels (c.look_beside.ensures.acts [] c.args.done.now).rings.notes c.look_beside.ensures.rest.sent c.look_beside.ensures.received c.look_beside.ensures.core) (came_left c.args.w c.args.acceptor.now c.leave.new.self c.look_beside.new.self c.leave.ensures.notes c.look_beside.ensures.received) (ap (λ (s : Core). s.out) c.look_beside.ensures.core ∙ c.leave.ensures.out) (ap (λ (s : Core). in_order s.order c.args.w) c.look_beside.ensures.core ∙ c.leave.ensures.left) c.into_handed-handed.result (record { parcels = c.look_beside.new.parcels; notes = c.look_beside.new.notes; factory = c.into_handed-handed.result.factory; owed = c.into_handed-handed.result.owed; rest = c.into_handed-handed.result.rest; departure = c.into_handed-handed.result.departure }) (subst (λ x. HandsOver g.Li.Link.Link.identity g.F.ServerServiceFactory.may_serve g.F.ServerServiceFactory.may_leave g.F.ServerServiceFactory.may_ready g.F.ServerServiceFactory.may_init g.F.ServerServiceFactory.may_make (job_of c.in-Some.ended) x) (sym c.into_handed-handed.ensures) c.join.ensures) c.look_beside.ensures.parcels c.look_beside.ensures.notes (refl, refl, refl, refl) c.look_beside.ensures.to_it c.look_beside.ensures.from_it c.look_beside.ensures.pair_from) (none_left_now g.F.ServerServiceFactory.may_serve g.F.ServerServiceFactory.may_leave g.F.ServerServiceFactory.may_ready g.F.ServerServiceFactory.may_init g.F.ServerServiceFactory.may_make g.Li.Link.Link.identity c.args.factory.now c.args.listeners c.args.acceptor.now c.look_beside.new.self c.args.w c.args.running.now.items c.in-Some.ended c.requires.crew c.requires.faulted c.requires.even (at_taken c.args.running.now.items c.args.w c.index_mut.result.now (omega (arith, c.requires.crew.as_many.0, c.args.acceptor.now.workers.0, c.requires.number.0)) c.index_mut.ensures.value ∙ ap (λ x. Some x) (sym c.take.ensures.value ∙ c.in-Some.is)) (keeps_left c.args.w c.args.acceptor.now c.leave.new.self c.look_beside.new.self c.leave.ensures.parcels c.leave.ensures.notes c.leave.ensures.others c.leave.ensures.retired (c.look_beside.ensures.acts [] c.args.done.now).rings.parcels (c.look_beside.ensures.acts [] c.args.done.now).rings.notes c.look_beside.ensures.rest.sent c.look_beside.ensures.received c.look_beside.ensures.core) (came_left c.args.w c.args.acceptor.now c.leave.new.self c.look_beside.new.self c.leave.ensures.notes c.look_beside.ensures.received) (ap (λ (s : Core). s.out) c.look_beside.ensures.core ∙ c.leave.ensures.out) (ap (λ (s : Core). in_order s.order c.args.w) c.look_beside.ensures.core ∙ c.leave.ensures.left) c.into_handed-handed.result (record { parcels = c.look_beside.new.parcels; notes = c.look_beside.new.notes; factory = c.into_handed-handed.result.factory; owed = c.into_handed-handed.result.owed; rest = c.into_handed-handed.result.rest; departure = c.into_handed-handed.result.departure }) (subst (λ x. HandsOver g.Li.Link.Link.identity g.F.ServerServiceFactory.may_serve g.F.ServerServiceFactory.may_leave g.F.ServerServiceFactory.may_ready g.F.ServerServiceFactory.may_init g.F.ServerServiceFactory.may_make (job_of c.in-Some.ended) x) (sym c.into_handed-handed.ensures) c.join.ensures) c.look_beside.ensures.parcels c.look_beside.ensures.notes (refl, refl, refl, refl) c.look_beside.ensures.to_it c.look_beside.ensures.from_it c.look_beside.ensures.pair_from c.successor.new.acceptor c.successor.ensures.recalls)) c.retire.ensures.retired))
+        (gone_now c.args.w (core_of c.successor.new.acceptor) (core_of c.retire.new.self) (may_return_now (core_of c.successor.new.acceptor) c.args.w (subst (λ k. c.args.w < k) (sym (c.successor.ensures.recalls.takes.rest.workers ∙ c.look_beside.ensures.rest.workers ∙ c.leave.ensures.rest.workers)) c.requires.number.0) (ap (λ o. in_order o c.args.w) c.successor.ensures.recalls.takes.order ∙ (ap (λ (s : Core). in_order s.order c.args.w) c.look_beside.ensures.core ∙ c.leave.ensures.left)) (ap (λ x. set.contains x c.args.w) (c.successor.ensures.recalls.takes.retired ∙ ap (λ (s : Core). s.retired) c.look_beside.ensures.core ∙ c.leave.ensures.retired) ∙ kept_first g.F.ServerServiceFactory.may_serve g.F.ServerServiceFactory.may_leave g.F.ServerServiceFactory.may_ready g.F.ServerServiceFactory.may_init g.F.ServerServiceFactory.may_make g.Li.Link.Link.identity c.args.factory.now c.args.listeners c.args.acceptor.now c.look_beside.new.self c.args.w c.args.running.now.items c.in-Some.ended c.requires.crew c.requires.faulted c.requires.even (at_taken c.args.running.now.items c.args.w c.index_mut.result.now (omega (arith, c.requires.crew.as_many.0, c.args.acceptor.now.workers.0, c.requires.number.0)) c.index_mut.ensures.value ∙ ap (λ x. Some x) (sym c.take.ensures.value ∙ c.in-Some.is)) (keeps_left c.args.w c.args.acceptor.now c.leave.new.self c.look_beside.new.self c.leave.ensures.parcels c.leave.ensures.notes c.leave.ensures.others c.leave.ensures.retired (c.look_beside.ensures.acts [] c.args.done.now).rings.parcels (c.look_beside.ensures.acts [] c.args.done.now).rings.notes c.look_beside.ensures.rest.sent c.look_beside.ensures.received c.look_beside.ensures.core) (came_left c.args.w c.args.acceptor.now c.leave.new.self c.look_beside.new.self c.leave.ensures.notes c.look_beside.ensures.received) (ap (λ (s : Core). s.out) c.look_beside.ensures.core ∙ c.leave.ensures.out) (ap (λ (s : Core). in_order s.order c.args.w) c.look_beside.ensures.core ∙ c.leave.ensures.left) c.into_handed-handed.result (record { parcels = c.look_beside.new.parcels; notes = c.look_beside.new.notes; factory = c.into_handed-handed.result.factory; owed = c.into_handed-handed.result.owed; rest = c.into_handed-handed.result.rest; departure = c.into_handed-handed.result.departure }) (subst (λ x. HandsOver g.Li.Link.Link.identity g.F.ServerServiceFactory.may_serve g.F.ServerServiceFactory.may_leave g.F.ServerServiceFactory.may_ready g.F.ServerServiceFactory.may_init g.F.ServerServiceFactory.may_make (job_of c.in-Some.ended) x) (sym c.into_handed-handed.ensures) c.join.ensures) c.look_beside.ensures.parcels c.look_beside.ensures.notes (refl, refl, refl, refl) c.look_beside.ensures.to_it c.look_beside.ensures.from_it c.look_beside.ensures.pair_from) (none_left_now g.F.ServerServiceFactory.may_serve g.F.ServerServiceFactory.may_leave g.F.ServerServiceFactory.may_ready g.F.ServerServiceFactory.may_init g.F.ServerServiceFactory.may_make g.Li.Link.Link.identity c.args.factory.now c.args.listeners c.args.acceptor.now c.look_beside.new.self c.args.w c.args.running.now.items c.in-Some.ended c.requires.crew c.requires.faulted c.requires.even (at_taken c.args.running.now.items c.args.w c.index_mut.result.now (omega (arith, c.requires.crew.as_many.0, c.args.acceptor.now.workers.0, c.requires.number.0)) c.index_mut.ensures.value ∙ ap (λ x. Some x) (sym c.take.ensures.value ∙ c.in-Some.is)) (keeps_left c.args.w c.args.acceptor.now c.leave.new.self c.look_beside.new.self c.leave.ensures.parcels c.leave.ensures.notes c.leave.ensures.others c.leave.ensures.retired (c.look_beside.ensures.acts [] c.args.done.now).rings.parcels (c.look_beside.ensures.acts [] c.args.done.now).rings.notes c.look_beside.ensures.rest.sent c.look_beside.ensures.received c.look_beside.ensures.core) (came_left c.args.w c.args.acceptor.now c.leave.new.self c.look_beside.new.self c.leave.ensures.notes c.look_beside.ensures.received) (ap (λ (s : Core). s.out) c.look_beside.ensures.core ∙ c.leave.ensures.out) (ap (λ (s : Core). in_order s.order c.args.w) c.look_beside.ensures.core ∙ c.leave.ensures.left) c.into_handed-handed.result (record { parcels = c.look_beside.new.parcels; notes = c.look_beside.new.notes; factory = c.into_handed-handed.result.factory; owed = c.into_handed-handed.result.owed; rest = c.into_handed-handed.result.rest; departure = c.into_handed-handed.result.departure }) (subst (λ x. HandsOver g.Li.Link.Link.identity g.F.ServerServiceFactory.may_serve g.F.ServerServiceFactory.may_leave g.F.ServerServiceFactory.may_ready g.F.ServerServiceFactory.may_init g.F.ServerServiceFactory.may_make (job_of c.in-Some.ended) x) (sym c.into_handed-handed.ensures) c.join.ensures) c.look_beside.ensures.parcels c.look_beside.ensures.notes (refl, refl, refl, refl) c.look_beside.ensures.to_it c.look_beside.ensures.from_it c.look_beside.ensures.pair_from c.successor.new.acceptor c.successor.ensures.recalls)) c.retire.ensures.retired))
         (even_now g.F.ServerServiceFactory.may_serve g.F.ServerServiceFactory.may_leave g.F.ServerServiceFactory.may_ready g.F.ServerServiceFactory.may_init g.F.ServerServiceFactory.may_make g.Li.Link.Link.identity c.args.factory.now c.args.listeners c.args.acceptor.now c.look_beside.new.self c.args.w c.args.running.now.items c.in-Some.ended c.requires.crew c.requires.faulted c.requires.even
         (at_taken c.args.running.now.items c.args.w c.index_mut.result.now (omega (arith, c.requires.crew.as_many.0, c.args.acceptor.now.workers.0, c.requires.number.0)) c.index_mut.ensures.value ∙ ap (λ x. Some x) (sym c.take.ensures.value ∙ c.in-Some.is))
         (keeps_left c.args.w c.args.acceptor.now c.leave.new.self c.look_beside.new.self c.leave.ensures.parcels c.leave.ensures.notes c.leave.ensures.others c.leave.ensures.retired (c.look_beside.ensures.acts [] c.args.done.now).rings.parcels (c.look_beside.ensures.acts [] c.args.done.now).rings.notes c.look_beside.ensures.rest.sent c.look_beside.ensures.received c.look_beside.ensures.core)
@@ -92,14 +92,14 @@ returns-in_default-successor-clause-last g c is = (
       c.look_beside.ensures.parcels c.look_beside.ensures.notes (refl, refl, refl, refl) c.look_beside.ensures.to_it c.look_beside.ensures.from_it c.look_beside.ensures.pair_from,
   none_runs g.F.ServerServiceFactory.may_serve g.F.ServerServiceFactory.may_leave g.F.ServerServiceFactory.may_ready g.F.ServerServiceFactory.may_init g.F.ServerServiceFactory.may_make g.Li.Link.Link.identity c.args.factory.now c.args.listeners c.retire.new.self (slice_set c.args.running.now.items c.args.w c.take.new.self)
       (crew_retired g.F.ServerServiceFactory.may_serve g.F.ServerServiceFactory.may_leave g.F.ServerServiceFactory.may_ready g.F.ServerServiceFactory.may_init g.F.ServerServiceFactory.may_make g.Li.Link.Link.identity c.args.factory.now c.args.listeners c.args.acceptor.now c.look_beside.new.self c.args.w c.args.running.now.items c.in-Some.ended c.requires.crew c.requires.faulted c.requires.even
-        (at_taken c.args.running.now.items c.args.w c.index_mut.result.now (omega (arith, c.requires.crew.as_many.0, c.args.acceptor.now.workers.0, c.requires.number.0)) c.index_mut.ensures.value ∙ ap (λ x. Some x) (sym c.take.ensures.value ∙ c.in-Some.is))
-        (keeps_left c.args.w c.args.acceptor.now c.leave.new.self c.look_beside.new.self c.leave.ensures.parcels c.leave.ensures.notes c.leave.ensures.others c.leave.ensures.retired (c.look_beside.ensures.acts [] c.args.done.now).rings.parcels (c.look_beside.ensures.acts [] c.args.done.now).rings.notes c.look_beside.ensures.rest.sent c.look_beside.ensures.received c.look_beside.ensures.core)
-        (came_left c.args.w c.args.acceptor.now c.leave.new.self c.look_beside.new.self c.leave.ensures.notes c.look_beside.ensures.received) (ap (λ (s : Core). s.out) c.look_beside.ensures.core ∙ c.leave.ensures.out) (ap (λ (s : Core). in_order s.order c.args.w) c.look_beside.ensures.core ∙ c.leave.ensures.left)
-        c.into_handed-handed.result (record { parcels = c.look_beside.new.parcels; notes = c.look_beside.new.notes; factory = c.into_handed-handed.result.factory; owed = c.into_handed-handed.result.owed; rest = c.into_handed-handed.result.rest; departure = c.into_handed-handed.result.departure })
-        (subst (λ x. HandsOver g.Li.Link.Link.identity g.F.ServerServiceFactory.may_serve g.F.ServerServiceFactory.may_leave g.F.ServerServiceFactory.may_ready g.F.ServerServiceFactory.may_init g.F.ServerServiceFactory.may_make (job_of c.in-Some.ended) x) (sym c.into_handed-handed.ensures) c.join.ensures)
-        c.look_beside.ensures.parcels c.look_beside.ensures.notes (refl, refl, refl, refl) c.look_beside.ensures.to_it c.look_beside.ensures.from_it c.look_beside.ensures.pair_from
-        c.successor.new.acceptor c.retire.new.self c.successor.ensures.recalls (keeps_rings c.args.w c.successor.new.acceptor c.retire.new.self c.retire.ensures.parcels c.retire.ensures.notes (λ v other off. ap (λ o. in_order o v) c.retire.ensures.order ∙ off) c.retire.ensures.others) (ap (λ ns. received_at ns c.args.w) c.retire.ensures.notes) (slice_set c.args.running.now.items c.args.w c.take.new.self) (length-set c.args.running.now.items c.args.w c.take.new.self) (λ v other. get_elsewhere c.args.running.now.items c.args.w v c.take.new.self other) (get_here c.args.running.now.items c.args.w c.take.new.self (omega (arith, c.requires.crew.as_many.0, c.args.acceptor.now.workers.0, c.requires.number.0)) ∙ ap (λ x. Some x) c.take.ensures.after) (ap (λ o. in_order o c.args.w) (c.retire.ensures.order ∙ c.successor.ensures.recalls.takes.order) ∙ (ap (λ (s : Core). in_order s.order c.args.w) c.look_beside.ensures.core ∙ c.leave.ensures.left))
-    (gone_now c.args.w (core_of c.successor.new.acceptor) (core_of c.retire.new.self) (may_return_now (core_of c.successor.new.acceptor) c.args.w (subst (λ k. c.args.w < k) (sym (c.successor.ensures.recalls.takes.rest.workers ∙ c.look_beside.ensures.rest.workers ∙ c.leave.ensures.rest.workers)) c.requires.number.0) (ap (λ o. in_order o c.args.w) c.successor.ensures.recalls.takes.order ∙ (ap (λ (s : Core). in_order s.order c.args.w) c.look_beside.ensures.core ∙ c.leave.ensures.left)) (ap (λ x. set.contains x c.args.w) (c.successor.ensures.recalls.takes.retired ∙ ap (λ (s : Core). s.retired) c.look_beside.ensures.core ∙ c.leave.ensures.retired) ∙ kept_first g.F.ServerServiceFactory.may_serve g.F.ServerServiceFactory.may_leave g.F.ServerServiceFactory.may_ready g.F.ServerServiceFactory.may_init g.F.ServerServiceFactory.may_make g.Li.Link.Link.identity c.args.factory.now c.args.listeners c.args.acceptor.now c.look_beside.new.self c.args.w c.args.running.now.items c.in-Some.ended c.requires.crew c.requires.faulted c.requires.even (at_taken c.args.running.now.items c.args.w c.index_mut.result.now (omega (arith, c.requires.crew.as_many.0, c.args.acceptor.now.workers.0, c.requires.number.0)) c.index_mut.ensures.value ∙ ap (λ x. Some x) (sym c.take.ensures.value ∙ c.in-Some.is)) (keeps_left c.args.w c.args.acceptor.now c.leave.new.self c.look_beside.new.self c.leave.ensures.parcels c.leave.ensures.notes c.leave.ensures.others c.leave.ensures.retired (c.look_beside.ensures.acts [] c.args.done.now).rings.parcels (c.look_beside.ensures.acts [] c.args.done.now).rings.notes c.look_beside.ensures.rest.sent c.look_beside.ensures.received c.look_beside.ensures.core) (came_left c.args.w c.args.acceptor.now c.leave.new.self c.look_beside.new.self c.leave.ensures.notes c.look_beside.ensures.received) (ap (λ (s : Core). s.out) c.look_beside.ensures.core ∙ c.leave.ensures.out) (ap (λ (s : Core). in_order s.order c.args.w) c.look_beside.ensures.core ∙ c.leave.ensures.left) c.into_handed-handed.result (record { parcels = c.look_beside.new.parcels; notes = c.look_beside.new.notes; factory = c.into_handed-handed.result.factory; owed = c.into_handed-handed.result.owed; rest = c.into_handed-handed.result.rest; departure = c.into_handed-handed.result.departure }) (subst (λ x. HandsOver g.Li.Link.Link.identity g.F.ServerServiceFactory.may_serve g.F.ServerServiceFactory.may_leave g.F.ServerServiceFactory.may_ready g.F.ServerServiceFactory.may_init g.F.ServerServiceFactory.may_make (job_of c.in-Some.ended) x) (sym c.into_handed-handed.ensures) c.join.ensures) c.look_beside.ensures.parcels c.look_beside.ensures.notes (refl, refl, refl, refl) c.look_beside.ensures.to_it c.look_beside.ensures.from_it c.look_beside.ensures.pair_from) (none_left_now g.F.ServerServiceFactory.may_serve g.F.ServerServiceFactory.may_leave g.F.ServerServiceFactory.may_ready g.F.ServerServiceFactory.may_init g.F.ServerServiceFactory.may_make g.Li.Link.Link.identity c.args.factory.now c.args.listeners c.args.acceptor.now c.look_beside.new.self c.args.w c.args.running.now.items c.in-Some.ended c.requires.crew c.requires.faulted c.requires.even (at_taken c.args.running.now.items c.args.w c.index_mut.result.now (omega (arith, c.requires.crew.as_many.0, c.args.acceptor.now.workers.0, c.requires.number.0)) c.index_mut.ensures.value ∙ ap (λ x. Some x) (sym c.take.ensures.value ∙ c.in-Some.is)) (keeps_left c.args.w c.args.acceptor.now c.leave.new.self c.look_beside.new.self c.leave.ensures.parcels c.leave.ensures.notes c.leave.ensures.others c.leave.ensures.retired (c.look_beside.ensures.acts [] c.args.done.now).rings.parcels (c.look_beside.ensures.acts [] c.args.done.now).rings.notes c.look_beside.ensures.rest.sent c.look_beside.ensures.received c.look_beside.ensures.core) (came_left c.args.w c.args.acceptor.now c.leave.new.self c.look_beside.new.self c.leave.ensures.notes c.look_beside.ensures.received) (ap (λ (s : Core). s.out) c.look_beside.ensures.core ∙ c.leave.ensures.out) (ap (λ (s : Core). in_order s.order c.args.w) c.look_beside.ensures.core ∙ c.leave.ensures.left) c.into_handed-handed.result (record { parcels = c.look_beside.new.parcels; notes = c.look_beside.new.notes; factory = c.into_handed-handed.result.factory; owed = c.into_handed-handed.result.owed; rest = c.into_handed-handed.result.rest; departure = c.into_handed-handed.result.departure }) (subst (λ x. HandsOver g.Li.Link.Link.identity g.F.ServerServiceFactory.may_serve g.F.ServerServiceFactory.may_leave g.F.ServerServiceFactory.may_ready g.F.ServerServiceFactory.may_init g.F.ServerServiceFactory.may_make (job_of c.in-Some.ended) x) (sym c.into_handed-handed.ensures) c.join.ensures) c.look_beside.ensures.parcels c.look_beside.ensures.notes (refl, refl, refl, refl) c.look_beside.ensures.to_it c.look_beside.ensures.from_it c.look_beside.ensures.pair_from c.successor.new.acceptor c.successor.ensures.recalls)) c.retire.ensures.retired)) (c.retire.ensures.last is).0,
+      (at_taken c.args.running.now.items c.args.w c.index_mut.result.now (omega (arith, c.requires.crew.as_many.0, c.args.acceptor.now.workers.0, c.requires.number.0)) c.index_mut.ensures.value ∙ ap (λ x. Some x) (sym c.take.ensures.value ∙ c.in-Some.is))
+      (keeps_left c.args.w c.args.acceptor.now c.leave.new.self c.look_beside.new.self c.leave.ensures.parcels c.leave.ensures.notes c.leave.ensures.others c.leave.ensures.retired (c.look_beside.ensures.acts [] c.args.done.now).rings.parcels (c.look_beside.ensures.acts [] c.args.done.now).rings.notes c.look_beside.ensures.rest.sent c.look_beside.ensures.received c.look_beside.ensures.core)
+      (came_left c.args.w c.args.acceptor.now c.leave.new.self c.look_beside.new.self c.leave.ensures.notes c.look_beside.ensures.received) (ap (λ (s : Core). s.out) c.look_beside.ensures.core ∙ c.leave.ensures.out) (ap (λ (s : Core). in_order s.order c.args.w) c.look_beside.ensures.core ∙ c.leave.ensures.left)
+      c.into_handed-handed.result (record { parcels = c.look_beside.new.parcels; notes = c.look_beside.new.notes; factory = c.into_handed-handed.result.factory; owed = c.into_handed-handed.result.owed; rest = c.into_handed-handed.result.rest; departure = c.into_handed-handed.result.departure })
+      (subst (λ x. HandsOver g.Li.Link.Link.identity g.F.ServerServiceFactory.may_serve g.F.ServerServiceFactory.may_leave g.F.ServerServiceFactory.may_ready g.F.ServerServiceFactory.may_init g.F.ServerServiceFactory.may_make (job_of c.in-Some.ended) x) (sym c.into_handed-handed.ensures) c.join.ensures)
+      c.look_beside.ensures.parcels c.look_beside.ensures.notes (refl, refl, refl, refl) c.look_beside.ensures.to_it c.look_beside.ensures.from_it c.look_beside.ensures.pair_from
+      c.successor.new.acceptor c.retire.new.self c.successor.ensures.recalls (keeps_rings c.args.w c.successor.new.acceptor c.retire.new.self c.retire.ensures.parcels c.retire.ensures.notes (λ v other off. ap (λ o. in_order o v) c.retire.ensures.order ∙ off) c.retire.ensures.others) (ap (λ ns. received_at ns c.args.w) c.retire.ensures.notes) (slice_set c.args.running.now.items c.args.w c.take.new.self) (length-set c.args.running.now.items c.args.w c.take.new.self) (λ v other. get_elsewhere c.args.running.now.items c.args.w v c.take.new.self other) (get_here c.args.running.now.items c.args.w c.take.new.self (omega (arith, c.requires.crew.as_many.0, c.args.acceptor.now.workers.0, c.requires.number.0)) ∙ ap (λ x. Some x) c.take.ensures.after) (ap (λ o. in_order o c.args.w) (c.retire.ensures.order ∙ c.successor.ensures.recalls.takes.order) ∙ (ap (λ (s : Core). in_order s.order c.args.w) c.look_beside.ensures.core ∙ c.leave.ensures.left))
+      (gone_now c.args.w (core_of c.successor.new.acceptor) (core_of c.retire.new.self) (may_return_now (core_of c.successor.new.acceptor) c.args.w (subst (λ k. c.args.w < k) (sym (c.successor.ensures.recalls.takes.rest.workers ∙ c.look_beside.ensures.rest.workers ∙ c.leave.ensures.rest.workers)) c.requires.number.0) (ap (λ o. in_order o c.args.w) c.successor.ensures.recalls.takes.order ∙ (ap (λ (s : Core). in_order s.order c.args.w) c.look_beside.ensures.core ∙ c.leave.ensures.left)) (ap (λ x. set.contains x c.args.w) (c.successor.ensures.recalls.takes.retired ∙ ap (λ (s : Core). s.retired) c.look_beside.ensures.core ∙ c.leave.ensures.retired) ∙ kept_first g.F.ServerServiceFactory.may_serve g.F.ServerServiceFactory.may_leave g.F.ServerServiceFactory.may_ready g.F.ServerServiceFactory.may_init g.F.ServerServiceFactory.may_make g.Li.Link.Link.identity c.args.factory.now c.args.listeners c.args.acceptor.now c.look_beside.new.self c.args.w c.args.running.now.items c.in-Some.ended c.requires.crew c.requires.faulted c.requires.even (at_taken c.args.running.now.items c.args.w c.index_mut.result.now (omega (arith, c.requires.crew.as_many.0, c.args.acceptor.now.workers.0, c.requires.number.0)) c.index_mut.ensures.value ∙ ap (λ x. Some x) (sym c.take.ensures.value ∙ c.in-Some.is)) (keeps_left c.args.w c.args.acceptor.now c.leave.new.self c.look_beside.new.self c.leave.ensures.parcels c.leave.ensures.notes c.leave.ensures.others c.leave.ensures.retired (c.look_beside.ensures.acts [] c.args.done.now).rings.parcels (c.look_beside.ensures.acts [] c.args.done.now).rings.notes c.look_beside.ensures.rest.sent c.look_beside.ensures.received c.look_beside.ensures.core) (came_left c.args.w c.args.acceptor.now c.leave.new.self c.look_beside.new.self c.leave.ensures.notes c.look_beside.ensures.received) (ap (λ (s : Core). s.out) c.look_beside.ensures.core ∙ c.leave.ensures.out) (ap (λ (s : Core). in_order s.order c.args.w) c.look_beside.ensures.core ∙ c.leave.ensures.left) c.into_handed-handed.result (record { parcels = c.look_beside.new.parcels; notes = c.look_beside.new.notes; factory = c.into_handed-handed.result.factory; owed = c.into_handed-handed.result.owed; rest = c.into_handed-handed.result.rest; departure = c.into_handed-handed.result.departure }) (subst (λ x. HandsOver g.Li.Link.Link.identity g.F.ServerServiceFactory.may_serve g.F.ServerServiceFactory.may_leave g.F.ServerServiceFactory.may_ready g.F.ServerServiceFactory.may_init g.F.ServerServiceFactory.may_make (job_of c.in-Some.ended) x) (sym c.into_handed-handed.ensures) c.join.ensures) c.look_beside.ensures.parcels c.look_beside.ensures.notes (refl, refl, refl, refl) c.look_beside.ensures.to_it c.look_beside.ensures.from_it c.look_beside.ensures.pair_from) (none_left_now g.F.ServerServiceFactory.may_serve g.F.ServerServiceFactory.may_leave g.F.ServerServiceFactory.may_ready g.F.ServerServiceFactory.may_init g.F.ServerServiceFactory.may_make g.Li.Link.Link.identity c.args.factory.now c.args.listeners c.args.acceptor.now c.look_beside.new.self c.args.w c.args.running.now.items c.in-Some.ended c.requires.crew c.requires.faulted c.requires.even (at_taken c.args.running.now.items c.args.w c.index_mut.result.now (omega (arith, c.requires.crew.as_many.0, c.args.acceptor.now.workers.0, c.requires.number.0)) c.index_mut.ensures.value ∙ ap (λ x. Some x) (sym c.take.ensures.value ∙ c.in-Some.is)) (keeps_left c.args.w c.args.acceptor.now c.leave.new.self c.look_beside.new.self c.leave.ensures.parcels c.leave.ensures.notes c.leave.ensures.others c.leave.ensures.retired (c.look_beside.ensures.acts [] c.args.done.now).rings.parcels (c.look_beside.ensures.acts [] c.args.done.now).rings.notes c.look_beside.ensures.rest.sent c.look_beside.ensures.received c.look_beside.ensures.core) (came_left c.args.w c.args.acceptor.now c.leave.new.self c.look_beside.new.self c.leave.ensures.notes c.look_beside.ensures.received) (ap (λ (s : Core). s.out) c.look_beside.ensures.core ∙ c.leave.ensures.out) (ap (λ (s : Core). in_order s.order c.args.w) c.look_beside.ensures.core ∙ c.leave.ensures.left) c.into_handed-handed.result (record { parcels = c.look_beside.new.parcels; notes = c.look_beside.new.notes; factory = c.into_handed-handed.result.factory; owed = c.into_handed-handed.result.owed; rest = c.into_handed-handed.result.rest; departure = c.into_handed-handed.result.departure }) (subst (λ x. HandsOver g.Li.Link.Link.identity g.F.ServerServiceFactory.may_serve g.F.ServerServiceFactory.may_leave g.F.ServerServiceFactory.may_ready g.F.ServerServiceFactory.may_init g.F.ServerServiceFactory.may_make (job_of c.in-Some.ended) x) (sym c.into_handed-handed.ensures) c.join.ensures) c.look_beside.ensures.parcels c.look_beside.ensures.notes (refl, refl, refl, refl) c.look_beside.ensures.to_it c.look_beside.ensures.from_it c.look_beside.ensures.pair_from c.successor.new.acceptor c.successor.ensures.recalls)) c.retire.ensures.retired)) (c.retire.ensures.last is).0,
 )
 
 pub returns-in-Some-replace-clause-spare : goal.returns-in-Some-replace-clause-spare
@@ -196,7 +196,7 @@ returns-in-Err-clause-last g c is = (
         (subst (λ x. HandsOver g.Li.Link.Link.identity g.F.ServerServiceFactory.may_serve g.F.ServerServiceFactory.may_leave g.F.ServerServiceFactory.may_ready g.F.ServerServiceFactory.may_init g.F.ServerServiceFactory.may_make (job_of c.in-Some.ended) x) (sym c.into_handed-handed.ensures) c.join.ensures)
         c.look_beside.ensures.parcels c.look_beside.ensures.notes (refl, refl, refl, refl) c.look_beside.ensures.to_it c.look_beside.ensures.from_it c.look_beside.ensures.pair_from
         c.successor.new.acceptor c.retire-in-Err.new.self c.successor.ensures.recalls (keeps_rings c.args.w c.successor.new.acceptor c.retire-in-Err.new.self c.retire-in-Err.ensures.parcels c.retire-in-Err.ensures.notes (λ v other off. ap (λ o. in_order o v) c.retire-in-Err.ensures.order ∙ off) c.retire-in-Err.ensures.others) (ap (λ ns. received_at ns c.args.w) c.retire-in-Err.ensures.notes) (slice_set c.args.running.now.items c.args.w c.take.new.self) (length-set c.args.running.now.items c.args.w c.take.new.self) (λ v other. get_elsewhere c.args.running.now.items c.args.w v c.take.new.self other) (get_here c.args.running.now.items c.args.w c.take.new.self (omega (arith, c.requires.crew.as_many.0, c.args.acceptor.now.workers.0, c.requires.number.0)) ∙ ap (λ x. Some x) c.take.ensures.after) (ap (λ o. in_order o c.args.w) (c.retire-in-Err.ensures.order ∙ c.successor.ensures.recalls.takes.order) ∙ (ap (λ (s : Core). in_order s.order c.args.w) c.look_beside.ensures.core ∙ c.leave.ensures.left))
-    (gone_now c.args.w (core_of c.successor.new.acceptor) (core_of c.retire-in-Err.new.self) (may_return_now (core_of c.successor.new.acceptor) c.args.w (subst (λ k. c.args.w < k) (sym (c.successor.ensures.recalls.takes.rest.workers ∙ c.look_beside.ensures.rest.workers ∙ c.leave.ensures.rest.workers)) c.requires.number.0) (ap (λ o. in_order o c.args.w) c.successor.ensures.recalls.takes.order ∙ (ap (λ (s : Core). in_order s.order c.args.w) c.look_beside.ensures.core ∙ c.leave.ensures.left)) (ap (λ x. set.contains x c.args.w) (c.successor.ensures.recalls.takes.retired ∙ ap (λ (s : Core). s.retired) c.look_beside.ensures.core ∙ c.leave.ensures.retired) ∙ kept_first g.F.ServerServiceFactory.may_serve g.F.ServerServiceFactory.may_leave g.F.ServerServiceFactory.may_ready g.F.ServerServiceFactory.may_init g.F.ServerServiceFactory.may_make g.Li.Link.Link.identity c.args.factory.now c.args.listeners c.args.acceptor.now c.look_beside.new.self c.args.w c.args.running.now.items c.in-Some.ended c.requires.crew c.requires.faulted c.requires.even (at_taken c.args.running.now.items c.args.w c.index_mut.result.now (omega (arith, c.requires.crew.as_many.0, c.args.acceptor.now.workers.0, c.requires.number.0)) c.index_mut.ensures.value ∙ ap (λ x. Some x) (sym c.take.ensures.value ∙ c.in-Some.is)) (keeps_left c.args.w c.args.acceptor.now c.leave.new.self c.look_beside.new.self c.leave.ensures.parcels c.leave.ensures.notes c.leave.ensures.others c.leave.ensures.retired (c.look_beside.ensures.acts [] c.args.done.now).rings.parcels (c.look_beside.ensures.acts [] c.args.done.now).rings.notes c.look_beside.ensures.rest.sent c.look_beside.ensures.received c.look_beside.ensures.core) (came_left c.args.w c.args.acceptor.now c.leave.new.self c.look_beside.new.self c.leave.ensures.notes c.look_beside.ensures.received) (ap (λ (s : Core). s.out) c.look_beside.ensures.core ∙ c.leave.ensures.out) (ap (λ (s : Core). in_order s.order c.args.w) c.look_beside.ensures.core ∙ c.leave.ensures.left) c.into_handed-handed.result (record { parcels = c.look_beside.new.parcels; notes = c.look_beside.new.notes; factory = c.into_handed-handed.result.factory; owed = c.into_handed-handed.result.owed; rest = c.into_handed-handed.result.rest; departure = c.into_handed-handed.result.departure }) (subst (λ x. HandsOver g.Li.Link.Link.identity g.F.ServerServiceFactory.may_serve g.F.ServerServiceFactory.may_leave g.F.ServerServiceFactory.may_ready g.F.ServerServiceFactory.may_init g.F.ServerServiceFactory.may_make (job_of c.in-Some.ended) x) (sym c.into_handed-handed.ensures) c.join.ensures) c.look_beside.ensures.parcels c.look_beside.ensures.notes (refl, refl, refl, refl) c.look_beside.ensures.to_it c.look_beside.ensures.from_it c.look_beside.ensures.pair_from) (none_left_now g.F.ServerServiceFactory.may_serve g.F.ServerServiceFactory.may_leave g.F.ServerServiceFactory.may_ready g.F.ServerServiceFactory.may_init g.F.ServerServiceFactory.may_make g.Li.Link.Link.identity c.args.factory.now c.args.listeners c.args.acceptor.now c.look_beside.new.self c.args.w c.args.running.now.items c.in-Some.ended c.requires.crew c.requires.faulted c.requires.even (at_taken c.args.running.now.items c.args.w c.index_mut.result.now (omega (arith, c.requires.crew.as_many.0, c.args.acceptor.now.workers.0, c.requires.number.0)) c.index_mut.ensures.value ∙ ap (λ x. Some x) (sym c.take.ensures.value ∙ c.in-Some.is)) (keeps_left c.args.w c.args.acceptor.now c.leave.new.self c.look_beside.new.self c.leave.ensures.parcels c.leave.ensures.notes c.leave.ensures.others c.leave.ensures.retired (c.look_beside.ensures.acts [] c.args.done.now).rings.parcels (c.look_beside.ensures.acts [] c.args.done.now).rings.notes c.look_beside.ensures.rest.sent c.look_beside.ensures.received c.look_beside.ensures.core) (came_left c.args.w c.args.acceptor.now c.leave.new.self c.look_beside.new.self c.leave.ensures.notes c.look_beside.ensures.received) (ap (λ (s : Core). s.out) c.look_beside.ensures.core ∙ c.leave.ensures.out) (ap (λ (s : Core). in_order s.order c.args.w) c.look_beside.ensures.core ∙ c.leave.ensures.left) c.into_handed-handed.result (record { parcels = c.look_beside.new.parcels; notes = c.look_beside.new.notes; factory = c.into_handed-handed.result.factory; owed = c.into_handed-handed.result.owed; rest = c.into_handed-handed.result.rest; departure = c.into_handed-handed.result.departure }) (subst (λ x. HandsOver g.Li.Link.Link.identity g.F.ServerServiceFactory.may_serve g.F.ServerServiceFactory.may_leave g.F.ServerServiceFactory.may_ready g.F.ServerServiceFactory.may_init g.F.ServerServiceFactory.may_make (job_of c.in-Some.ended) x) (sym c.into_handed-handed.ensures) c.join.ensures) c.look_beside.ensures.parcels c.look_beside.ensures.notes (refl, refl, refl, refl) c.look_beside.ensures.to_it c.look_beside.ensures.from_it c.look_beside.ensures.pair_from c.successor.new.acceptor c.successor.ensures.recalls)) c.retire-in-Err.ensures.retired))
+        (gone_now c.args.w (core_of c.successor.new.acceptor) (core_of c.retire-in-Err.new.self) (may_return_now (core_of c.successor.new.acceptor) c.args.w (subst (λ k. c.args.w < k) (sym (c.successor.ensures.recalls.takes.rest.workers ∙ c.look_beside.ensures.rest.workers ∙ c.leave.ensures.rest.workers)) c.requires.number.0) (ap (λ o. in_order o c.args.w) c.successor.ensures.recalls.takes.order ∙ (ap (λ (s : Core). in_order s.order c.args.w) c.look_beside.ensures.core ∙ c.leave.ensures.left)) (ap (λ x. set.contains x c.args.w) (c.successor.ensures.recalls.takes.retired ∙ ap (λ (s : Core). s.retired) c.look_beside.ensures.core ∙ c.leave.ensures.retired) ∙ kept_first g.F.ServerServiceFactory.may_serve g.F.ServerServiceFactory.may_leave g.F.ServerServiceFactory.may_ready g.F.ServerServiceFactory.may_init g.F.ServerServiceFactory.may_make g.Li.Link.Link.identity c.args.factory.now c.args.listeners c.args.acceptor.now c.look_beside.new.self c.args.w c.args.running.now.items c.in-Some.ended c.requires.crew c.requires.faulted c.requires.even (at_taken c.args.running.now.items c.args.w c.index_mut.result.now (omega (arith, c.requires.crew.as_many.0, c.args.acceptor.now.workers.0, c.requires.number.0)) c.index_mut.ensures.value ∙ ap (λ x. Some x) (sym c.take.ensures.value ∙ c.in-Some.is)) (keeps_left c.args.w c.args.acceptor.now c.leave.new.self c.look_beside.new.self c.leave.ensures.parcels c.leave.ensures.notes c.leave.ensures.others c.leave.ensures.retired (c.look_beside.ensures.acts [] c.args.done.now).rings.parcels (c.look_beside.ensures.acts [] c.args.done.now).rings.notes c.look_beside.ensures.rest.sent c.look_beside.ensures.received c.look_beside.ensures.core) (came_left c.args.w c.args.acceptor.now c.leave.new.self c.look_beside.new.self c.leave.ensures.notes c.look_beside.ensures.received) (ap (λ (s : Core). s.out) c.look_beside.ensures.core ∙ c.leave.ensures.out) (ap (λ (s : Core). in_order s.order c.args.w) c.look_beside.ensures.core ∙ c.leave.ensures.left) c.into_handed-handed.result (record { parcels = c.look_beside.new.parcels; notes = c.look_beside.new.notes; factory = c.into_handed-handed.result.factory; owed = c.into_handed-handed.result.owed; rest = c.into_handed-handed.result.rest; departure = c.into_handed-handed.result.departure }) (subst (λ x. HandsOver g.Li.Link.Link.identity g.F.ServerServiceFactory.may_serve g.F.ServerServiceFactory.may_leave g.F.ServerServiceFactory.may_ready g.F.ServerServiceFactory.may_init g.F.ServerServiceFactory.may_make (job_of c.in-Some.ended) x) (sym c.into_handed-handed.ensures) c.join.ensures) c.look_beside.ensures.parcels c.look_beside.ensures.notes (refl, refl, refl, refl) c.look_beside.ensures.to_it c.look_beside.ensures.from_it c.look_beside.ensures.pair_from) (none_left_now g.F.ServerServiceFactory.may_serve g.F.ServerServiceFactory.may_leave g.F.ServerServiceFactory.may_ready g.F.ServerServiceFactory.may_init g.F.ServerServiceFactory.may_make g.Li.Link.Link.identity c.args.factory.now c.args.listeners c.args.acceptor.now c.look_beside.new.self c.args.w c.args.running.now.items c.in-Some.ended c.requires.crew c.requires.faulted c.requires.even (at_taken c.args.running.now.items c.args.w c.index_mut.result.now (omega (arith, c.requires.crew.as_many.0, c.args.acceptor.now.workers.0, c.requires.number.0)) c.index_mut.ensures.value ∙ ap (λ x. Some x) (sym c.take.ensures.value ∙ c.in-Some.is)) (keeps_left c.args.w c.args.acceptor.now c.leave.new.self c.look_beside.new.self c.leave.ensures.parcels c.leave.ensures.notes c.leave.ensures.others c.leave.ensures.retired (c.look_beside.ensures.acts [] c.args.done.now).rings.parcels (c.look_beside.ensures.acts [] c.args.done.now).rings.notes c.look_beside.ensures.rest.sent c.look_beside.ensures.received c.look_beside.ensures.core) (came_left c.args.w c.args.acceptor.now c.leave.new.self c.look_beside.new.self c.leave.ensures.notes c.look_beside.ensures.received) (ap (λ (s : Core). s.out) c.look_beside.ensures.core ∙ c.leave.ensures.out) (ap (λ (s : Core). in_order s.order c.args.w) c.look_beside.ensures.core ∙ c.leave.ensures.left) c.into_handed-handed.result (record { parcels = c.look_beside.new.parcels; notes = c.look_beside.new.notes; factory = c.into_handed-handed.result.factory; owed = c.into_handed-handed.result.owed; rest = c.into_handed-handed.result.rest; departure = c.into_handed-handed.result.departure }) (subst (λ x. HandsOver g.Li.Link.Link.identity g.F.ServerServiceFactory.may_serve g.F.ServerServiceFactory.may_leave g.F.ServerServiceFactory.may_ready g.F.ServerServiceFactory.may_init g.F.ServerServiceFactory.may_make (job_of c.in-Some.ended) x) (sym c.into_handed-handed.ensures) c.join.ensures) c.look_beside.ensures.parcels c.look_beside.ensures.notes (refl, refl, refl, refl) c.look_beside.ensures.to_it c.look_beside.ensures.from_it c.look_beside.ensures.pair_from c.successor.new.acceptor c.successor.ensures.recalls)) c.retire-in-Err.ensures.retired))
         (even_now g.F.ServerServiceFactory.may_serve g.F.ServerServiceFactory.may_leave g.F.ServerServiceFactory.may_ready g.F.ServerServiceFactory.may_init g.F.ServerServiceFactory.may_make g.Li.Link.Link.identity c.args.factory.now c.args.listeners c.args.acceptor.now c.look_beside.new.self c.args.w c.args.running.now.items c.in-Some.ended c.requires.crew c.requires.faulted c.requires.even
         (at_taken c.args.running.now.items c.args.w c.index_mut.result.now (omega (arith, c.requires.crew.as_many.0, c.args.acceptor.now.workers.0, c.requires.number.0)) c.index_mut.ensures.value ∙ ap (λ x. Some x) (sym c.take.ensures.value ∙ c.in-Some.is))
         (keeps_left c.args.w c.args.acceptor.now c.leave.new.self c.look_beside.new.self c.leave.ensures.parcels c.leave.ensures.notes c.leave.ensures.others c.leave.ensures.retired (c.look_beside.ensures.acts [] c.args.done.now).rings.parcels (c.look_beside.ensures.acts [] c.args.done.now).rings.notes c.look_beside.ensures.rest.sent c.look_beside.ensures.received c.look_beside.ensures.core)
@@ -215,14 +215,14 @@ returns-in-Err-clause-last g c is = (
       c.look_beside.ensures.parcels c.look_beside.ensures.notes (refl, refl, refl, refl) c.look_beside.ensures.to_it c.look_beside.ensures.from_it c.look_beside.ensures.pair_from,
   none_runs g.F.ServerServiceFactory.may_serve g.F.ServerServiceFactory.may_leave g.F.ServerServiceFactory.may_ready g.F.ServerServiceFactory.may_init g.F.ServerServiceFactory.may_make g.Li.Link.Link.identity c.args.factory.now c.args.listeners c.retire-in-Err.new.self (slice_set c.args.running.now.items c.args.w c.take.new.self)
       (crew_retired g.F.ServerServiceFactory.may_serve g.F.ServerServiceFactory.may_leave g.F.ServerServiceFactory.may_ready g.F.ServerServiceFactory.may_init g.F.ServerServiceFactory.may_make g.Li.Link.Link.identity c.args.factory.now c.args.listeners c.args.acceptor.now c.look_beside.new.self c.args.w c.args.running.now.items c.in-Some.ended c.requires.crew c.requires.faulted c.requires.even
-        (at_taken c.args.running.now.items c.args.w c.index_mut.result.now (omega (arith, c.requires.crew.as_many.0, c.args.acceptor.now.workers.0, c.requires.number.0)) c.index_mut.ensures.value ∙ ap (λ x. Some x) (sym c.take.ensures.value ∙ c.in-Some.is))
-        (keeps_left c.args.w c.args.acceptor.now c.leave.new.self c.look_beside.new.self c.leave.ensures.parcels c.leave.ensures.notes c.leave.ensures.others c.leave.ensures.retired (c.look_beside.ensures.acts [] c.args.done.now).rings.parcels (c.look_beside.ensures.acts [] c.args.done.now).rings.notes c.look_beside.ensures.rest.sent c.look_beside.ensures.received c.look_beside.ensures.core)
-        (came_left c.args.w c.args.acceptor.now c.leave.new.self c.look_beside.new.self c.leave.ensures.notes c.look_beside.ensures.received) (ap (λ (s : Core). s.out) c.look_beside.ensures.core ∙ c.leave.ensures.out) (ap (λ (s : Core). in_order s.order c.args.w) c.look_beside.ensures.core ∙ c.leave.ensures.left)
-        c.into_handed-handed.result (record { parcels = c.look_beside.new.parcels; notes = c.look_beside.new.notes; factory = c.into_handed-handed.result.factory; owed = c.into_handed-handed.result.owed; rest = c.into_handed-handed.result.rest; departure = c.into_handed-handed.result.departure })
-        (subst (λ x. HandsOver g.Li.Link.Link.identity g.F.ServerServiceFactory.may_serve g.F.ServerServiceFactory.may_leave g.F.ServerServiceFactory.may_ready g.F.ServerServiceFactory.may_init g.F.ServerServiceFactory.may_make (job_of c.in-Some.ended) x) (sym c.into_handed-handed.ensures) c.join.ensures)
-        c.look_beside.ensures.parcels c.look_beside.ensures.notes (refl, refl, refl, refl) c.look_beside.ensures.to_it c.look_beside.ensures.from_it c.look_beside.ensures.pair_from
-        c.successor.new.acceptor c.retire-in-Err.new.self c.successor.ensures.recalls (keeps_rings c.args.w c.successor.new.acceptor c.retire-in-Err.new.self c.retire-in-Err.ensures.parcels c.retire-in-Err.ensures.notes (λ v other off. ap (λ o. in_order o v) c.retire-in-Err.ensures.order ∙ off) c.retire-in-Err.ensures.others) (ap (λ ns. received_at ns c.args.w) c.retire-in-Err.ensures.notes) (slice_set c.args.running.now.items c.args.w c.take.new.self) (length-set c.args.running.now.items c.args.w c.take.new.self) (λ v other. get_elsewhere c.args.running.now.items c.args.w v c.take.new.self other) (get_here c.args.running.now.items c.args.w c.take.new.self (omega (arith, c.requires.crew.as_many.0, c.args.acceptor.now.workers.0, c.requires.number.0)) ∙ ap (λ x. Some x) c.take.ensures.after) (ap (λ o. in_order o c.args.w) (c.retire-in-Err.ensures.order ∙ c.successor.ensures.recalls.takes.order) ∙ (ap (λ (s : Core). in_order s.order c.args.w) c.look_beside.ensures.core ∙ c.leave.ensures.left))
-    (gone_now c.args.w (core_of c.successor.new.acceptor) (core_of c.retire-in-Err.new.self) (may_return_now (core_of c.successor.new.acceptor) c.args.w (subst (λ k. c.args.w < k) (sym (c.successor.ensures.recalls.takes.rest.workers ∙ c.look_beside.ensures.rest.workers ∙ c.leave.ensures.rest.workers)) c.requires.number.0) (ap (λ o. in_order o c.args.w) c.successor.ensures.recalls.takes.order ∙ (ap (λ (s : Core). in_order s.order c.args.w) c.look_beside.ensures.core ∙ c.leave.ensures.left)) (ap (λ x. set.contains x c.args.w) (c.successor.ensures.recalls.takes.retired ∙ ap (λ (s : Core). s.retired) c.look_beside.ensures.core ∙ c.leave.ensures.retired) ∙ kept_first g.F.ServerServiceFactory.may_serve g.F.ServerServiceFactory.may_leave g.F.ServerServiceFactory.may_ready g.F.ServerServiceFactory.may_init g.F.ServerServiceFactory.may_make g.Li.Link.Link.identity c.args.factory.now c.args.listeners c.args.acceptor.now c.look_beside.new.self c.args.w c.args.running.now.items c.in-Some.ended c.requires.crew c.requires.faulted c.requires.even (at_taken c.args.running.now.items c.args.w c.index_mut.result.now (omega (arith, c.requires.crew.as_many.0, c.args.acceptor.now.workers.0, c.requires.number.0)) c.index_mut.ensures.value ∙ ap (λ x. Some x) (sym c.take.ensures.value ∙ c.in-Some.is)) (keeps_left c.args.w c.args.acceptor.now c.leave.new.self c.look_beside.new.self c.leave.ensures.parcels c.leave.ensures.notes c.leave.ensures.others c.leave.ensures.retired (c.look_beside.ensures.acts [] c.args.done.now).rings.parcels (c.look_beside.ensures.acts [] c.args.done.now).rings.notes c.look_beside.ensures.rest.sent c.look_beside.ensures.received c.look_beside.ensures.core) (came_left c.args.w c.args.acceptor.now c.leave.new.self c.look_beside.new.self c.leave.ensures.notes c.look_beside.ensures.received) (ap (λ (s : Core). s.out) c.look_beside.ensures.core ∙ c.leave.ensures.out) (ap (λ (s : Core). in_order s.order c.args.w) c.look_beside.ensures.core ∙ c.leave.ensures.left) c.into_handed-handed.result (record { parcels = c.look_beside.new.parcels; notes = c.look_beside.new.notes; factory = c.into_handed-handed.result.factory; owed = c.into_handed-handed.result.owed; rest = c.into_handed-handed.result.rest; departure = c.into_handed-handed.result.departure }) (subst (λ x. HandsOver g.Li.Link.Link.identity g.F.ServerServiceFactory.may_serve g.F.ServerServiceFactory.may_leave g.F.ServerServiceFactory.may_ready g.F.ServerServiceFactory.may_init g.F.ServerServiceFactory.may_make (job_of c.in-Some.ended) x) (sym c.into_handed-handed.ensures) c.join.ensures) c.look_beside.ensures.parcels c.look_beside.ensures.notes (refl, refl, refl, refl) c.look_beside.ensures.to_it c.look_beside.ensures.from_it c.look_beside.ensures.pair_from) (none_left_now g.F.ServerServiceFactory.may_serve g.F.ServerServiceFactory.may_leave g.F.ServerServiceFactory.may_ready g.F.ServerServiceFactory.may_init g.F.ServerServiceFactory.may_make g.Li.Link.Link.identity c.args.factory.now c.args.listeners c.args.acceptor.now c.look_beside.new.self c.args.w c.args.running.now.items c.in-Some.ended c.requires.crew c.requires.faulted c.requires.even (at_taken c.args.running.now.items c.args.w c.index_mut.result.now (omega (arith, c.requires.crew.as_many.0, c.args.acceptor.now.workers.0, c.requires.number.0)) c.index_mut.ensures.value ∙ ap (λ x. Some x) (sym c.take.ensures.value ∙ c.in-Some.is)) (keeps_left c.args.w c.args.acceptor.now c.leave.new.self c.look_beside.new.self c.leave.ensures.parcels c.leave.ensures.notes c.leave.ensures.others c.leave.ensures.retired (c.look_beside.ensures.acts [] c.args.done.now).rings.parcels (c.look_beside.ensures.acts [] c.args.done.now).rings.notes c.look_beside.ensures.rest.sent c.look_beside.ensures.received c.look_beside.ensures.core) (came_left c.args.w c.args.acceptor.now c.leave.new.self c.look_beside.new.self c.leave.ensures.notes c.look_beside.ensures.received) (ap (λ (s : Core). s.out) c.look_beside.ensures.core ∙ c.leave.ensures.out) (ap (λ (s : Core). in_order s.order c.args.w) c.look_beside.ensures.core ∙ c.leave.ensures.left) c.into_handed-handed.result (record { parcels = c.look_beside.new.parcels; notes = c.look_beside.new.notes; factory = c.into_handed-handed.result.factory; owed = c.into_handed-handed.result.owed; rest = c.into_handed-handed.result.rest; departure = c.into_handed-handed.result.departure }) (subst (λ x. HandsOver g.Li.Link.Link.identity g.F.ServerServiceFactory.may_serve g.F.ServerServiceFactory.may_leave g.F.ServerServiceFactory.may_ready g.F.ServerServiceFactory.may_init g.F.ServerServiceFactory.may_make (job_of c.in-Some.ended) x) (sym c.into_handed-handed.ensures) c.join.ensures) c.look_beside.ensures.parcels c.look_beside.ensures.notes (refl, refl, refl, refl) c.look_beside.ensures.to_it c.look_beside.ensures.from_it c.look_beside.ensures.pair_from c.successor.new.acceptor c.successor.ensures.recalls)) c.retire-in-Err.ensures.retired)) (c.retire-in-Err.ensures.last is).0,
+      (at_taken c.args.running.now.items c.args.w c.index_mut.result.now (omega (arith, c.requires.crew.as_many.0, c.args.acceptor.now.workers.0, c.requires.number.0)) c.index_mut.ensures.value ∙ ap (λ x. Some x) (sym c.take.ensures.value ∙ c.in-Some.is))
+      (keeps_left c.args.w c.args.acceptor.now c.leave.new.self c.look_beside.new.self c.leave.ensures.parcels c.leave.ensures.notes c.leave.ensures.others c.leave.ensures.retired (c.look_beside.ensures.acts [] c.args.done.now).rings.parcels (c.look_beside.ensures.acts [] c.args.done.now).rings.notes c.look_beside.ensures.rest.sent c.look_beside.ensures.received c.look_beside.ensures.core)
+      (came_left c.args.w c.args.acceptor.now c.leave.new.self c.look_beside.new.self c.leave.ensures.notes c.look_beside.ensures.received) (ap (λ (s : Core). s.out) c.look_beside.ensures.core ∙ c.leave.ensures.out) (ap (λ (s : Core). in_order s.order c.args.w) c.look_beside.ensures.core ∙ c.leave.ensures.left)
+      c.into_handed-handed.result (record { parcels = c.look_beside.new.parcels; notes = c.look_beside.new.notes; factory = c.into_handed-handed.result.factory; owed = c.into_handed-handed.result.owed; rest = c.into_handed-handed.result.rest; departure = c.into_handed-handed.result.departure })
+      (subst (λ x. HandsOver g.Li.Link.Link.identity g.F.ServerServiceFactory.may_serve g.F.ServerServiceFactory.may_leave g.F.ServerServiceFactory.may_ready g.F.ServerServiceFactory.may_init g.F.ServerServiceFactory.may_make (job_of c.in-Some.ended) x) (sym c.into_handed-handed.ensures) c.join.ensures)
+      c.look_beside.ensures.parcels c.look_beside.ensures.notes (refl, refl, refl, refl) c.look_beside.ensures.to_it c.look_beside.ensures.from_it c.look_beside.ensures.pair_from
+      c.successor.new.acceptor c.retire-in-Err.new.self c.successor.ensures.recalls (keeps_rings c.args.w c.successor.new.acceptor c.retire-in-Err.new.self c.retire-in-Err.ensures.parcels c.retire-in-Err.ensures.notes (λ v other off. ap (λ o. in_order o v) c.retire-in-Err.ensures.order ∙ off) c.retire-in-Err.ensures.others) (ap (λ ns. received_at ns c.args.w) c.retire-in-Err.ensures.notes) (slice_set c.args.running.now.items c.args.w c.take.new.self) (length-set c.args.running.now.items c.args.w c.take.new.self) (λ v other. get_elsewhere c.args.running.now.items c.args.w v c.take.new.self other) (get_here c.args.running.now.items c.args.w c.take.new.self (omega (arith, c.requires.crew.as_many.0, c.args.acceptor.now.workers.0, c.requires.number.0)) ∙ ap (λ x. Some x) c.take.ensures.after) (ap (λ o. in_order o c.args.w) (c.retire-in-Err.ensures.order ∙ c.successor.ensures.recalls.takes.order) ∙ (ap (λ (s : Core). in_order s.order c.args.w) c.look_beside.ensures.core ∙ c.leave.ensures.left))
+      (gone_now c.args.w (core_of c.successor.new.acceptor) (core_of c.retire-in-Err.new.self) (may_return_now (core_of c.successor.new.acceptor) c.args.w (subst (λ k. c.args.w < k) (sym (c.successor.ensures.recalls.takes.rest.workers ∙ c.look_beside.ensures.rest.workers ∙ c.leave.ensures.rest.workers)) c.requires.number.0) (ap (λ o. in_order o c.args.w) c.successor.ensures.recalls.takes.order ∙ (ap (λ (s : Core). in_order s.order c.args.w) c.look_beside.ensures.core ∙ c.leave.ensures.left)) (ap (λ x. set.contains x c.args.w) (c.successor.ensures.recalls.takes.retired ∙ ap (λ (s : Core). s.retired) c.look_beside.ensures.core ∙ c.leave.ensures.retired) ∙ kept_first g.F.ServerServiceFactory.may_serve g.F.ServerServiceFactory.may_leave g.F.ServerServiceFactory.may_ready g.F.ServerServiceFactory.may_init g.F.ServerServiceFactory.may_make g.Li.Link.Link.identity c.args.factory.now c.args.listeners c.args.acceptor.now c.look_beside.new.self c.args.w c.args.running.now.items c.in-Some.ended c.requires.crew c.requires.faulted c.requires.even (at_taken c.args.running.now.items c.args.w c.index_mut.result.now (omega (arith, c.requires.crew.as_many.0, c.args.acceptor.now.workers.0, c.requires.number.0)) c.index_mut.ensures.value ∙ ap (λ x. Some x) (sym c.take.ensures.value ∙ c.in-Some.is)) (keeps_left c.args.w c.args.acceptor.now c.leave.new.self c.look_beside.new.self c.leave.ensures.parcels c.leave.ensures.notes c.leave.ensures.others c.leave.ensures.retired (c.look_beside.ensures.acts [] c.args.done.now).rings.parcels (c.look_beside.ensures.acts [] c.args.done.now).rings.notes c.look_beside.ensures.rest.sent c.look_beside.ensures.received c.look_beside.ensures.core) (came_left c.args.w c.args.acceptor.now c.leave.new.self c.look_beside.new.self c.leave.ensures.notes c.look_beside.ensures.received) (ap (λ (s : Core). s.out) c.look_beside.ensures.core ∙ c.leave.ensures.out) (ap (λ (s : Core). in_order s.order c.args.w) c.look_beside.ensures.core ∙ c.leave.ensures.left) c.into_handed-handed.result (record { parcels = c.look_beside.new.parcels; notes = c.look_beside.new.notes; factory = c.into_handed-handed.result.factory; owed = c.into_handed-handed.result.owed; rest = c.into_handed-handed.result.rest; departure = c.into_handed-handed.result.departure }) (subst (λ x. HandsOver g.Li.Link.Link.identity g.F.ServerServiceFactory.may_serve g.F.ServerServiceFactory.may_leave g.F.ServerServiceFactory.may_ready g.F.ServerServiceFactory.may_init g.F.ServerServiceFactory.may_make (job_of c.in-Some.ended) x) (sym c.into_handed-handed.ensures) c.join.ensures) c.look_beside.ensures.parcels c.look_beside.ensures.notes (refl, refl, refl, refl) c.look_beside.ensures.to_it c.look_beside.ensures.from_it c.look_beside.ensures.pair_from) (none_left_now g.F.ServerServiceFactory.may_serve g.F.ServerServiceFactory.may_leave g.F.ServerServiceFactory.may_ready g.F.ServerServiceFactory.may_init g.F.ServerServiceFactory.may_make g.Li.Link.Link.identity c.args.factory.now c.args.listeners c.args.acceptor.now c.look_beside.new.self c.args.w c.args.running.now.items c.in-Some.ended c.requires.crew c.requires.faulted c.requires.even (at_taken c.args.running.now.items c.args.w c.index_mut.result.now (omega (arith, c.requires.crew.as_many.0, c.args.acceptor.now.workers.0, c.requires.number.0)) c.index_mut.ensures.value ∙ ap (λ x. Some x) (sym c.take.ensures.value ∙ c.in-Some.is)) (keeps_left c.args.w c.args.acceptor.now c.leave.new.self c.look_beside.new.self c.leave.ensures.parcels c.leave.ensures.notes c.leave.ensures.others c.leave.ensures.retired (c.look_beside.ensures.acts [] c.args.done.now).rings.parcels (c.look_beside.ensures.acts [] c.args.done.now).rings.notes c.look_beside.ensures.rest.sent c.look_beside.ensures.received c.look_beside.ensures.core) (came_left c.args.w c.args.acceptor.now c.leave.new.self c.look_beside.new.self c.leave.ensures.notes c.look_beside.ensures.received) (ap (λ (s : Core). s.out) c.look_beside.ensures.core ∙ c.leave.ensures.out) (ap (λ (s : Core). in_order s.order c.args.w) c.look_beside.ensures.core ∙ c.leave.ensures.left) c.into_handed-handed.result (record { parcels = c.look_beside.new.parcels; notes = c.look_beside.new.notes; factory = c.into_handed-handed.result.factory; owed = c.into_handed-handed.result.owed; rest = c.into_handed-handed.result.rest; departure = c.into_handed-handed.result.departure }) (subst (λ x. HandsOver g.Li.Link.Link.identity g.F.ServerServiceFactory.may_serve g.F.ServerServiceFactory.may_leave g.F.ServerServiceFactory.may_ready g.F.ServerServiceFactory.may_init g.F.ServerServiceFactory.may_make (job_of c.in-Some.ended) x) (sym c.into_handed-handed.ensures) c.join.ensures) c.look_beside.ensures.parcels c.look_beside.ensures.notes (refl, refl, refl, refl) c.look_beside.ensures.to_it c.look_beside.ensures.from_it c.look_beside.ensures.pair_from c.successor.new.acceptor c.successor.ensures.recalls)) c.retire-in-Err.ensures.retired)) (c.retire-in-Err.ensures.last is).0,
 )
 
 pub returns-in_default-clause-placed : goal.returns-in_default-clause-placed
