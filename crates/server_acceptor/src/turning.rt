@@ -1,9 +1,9 @@
 //! A turn of the acceptor.
-ghost use Rattle.std.specs.Prelude.{◌≡◌, ◌⊎◌, ◌+◌, ◌≤◌, ◌<◌, ◌%◌, ℕ, [], None, Some, length, slice_index_or, true, false, is_some, count_by};
+ghost use Rattle.std.specs.Prelude.{◌≡◌, ◌⊎◌, ◌+◌, ◌≤◌, ◌<◌, ◌%◌, ℕ, [], None, Some, length, slice_index_or, true, false, count_by};
 ghost use Rattle.futures.specs.Task.{Keeps};
 ghost use Rattle.server_run.specs.Delivery.{given_at};
-ghost use Rattle.server_acceptor.specs.Accepting.{AcceptGoesOn, AsksInTurn, Does, EndsByFault, Finishes, HasHalted, HasTaken, IsAccepting, IsClosing, IsAskedOut, IsShort, LeavesStops, MayAsk, OnceEach, Proceeds, is_failed, refused};
-ghost use Rattle.server_acceptor.specs.Acceptors.{all_ready, core_of, events_of, first_of, lacks_room_of, listeners_of, out_of, parcels_of, places_of, shutdown_timeout_of, stop_of, waiting_of, workers_of};
+ghost use Rattle.server_acceptor.specs.Accepting.{AcceptGoesOn, AsksInTurn, Does, EndsByFault, Finishes, HasHalted, IsAccepting, IsClosing, IsAskedOut, IsShort, LeavesStops, MayAsk, OnceEach, Proceeds, is_failed, refused};
+ghost use Rattle.server_acceptor.specs.Acceptors.{all_ready, core_of, events_of, first_of, lacks_room_of, listeners_of, out_of, parcels_of, places_of, shutdown_timeout_of, stop_of, workers_of};
 ghost use Rattle.server_acceptor.specs.Commanding.{KeepsStop, TakesCommands};
 ghost use Rattle.server_acceptor.specs.Sending.{IsForced, IsStopped};
 ghost use Rattle.server_acceptor.specs.Stopping.{ForcesAll, IsDue};
