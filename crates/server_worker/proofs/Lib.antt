@@ -9,10 +9,12 @@ pub mod MakeSteps
 pub mod Places
 pub mod PollSteps
 pub mod PostSteps
+pub mod RemakeSteps
 pub mod ServeSteps
 pub mod Statuses
 pub mod StopSteps
 pub mod StopTurns
 pub mod StopWords
 pub mod TakeSteps
+pub mod TurnSteps
 pub mod WorkSteps

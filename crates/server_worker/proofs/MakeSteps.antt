@@ -4,7 +4,7 @@ use Rattle.std.proofs.Math.ListN.{length-set}
 use Rattle.std.proofs.lemmas.Bool.{cases_eq}
 use Rattle.std.proofs.lemmas.Option.{slice_get_read}
 use Rattle.server_worker.proofs.Lists.{slice_get-set_same, slice_get-set_other}
-use Rattle.server_worker.specs.Standing.{AtSlot, HasErred, IsMade, MadeOrWaits, fits, fits_at}
+use Rattle.server_worker.specs.Standing.{AllMade, AtSlot, HasErred, IsMade, MadeOrWaits, fits, fits_at}
 use Rattle.service_core.specs.declared.watched.Watched.{Watched}
 use Rattle.worker_core.specs.declared.service_status.ServiceStatus.{ServiceStatus}
 use Rattle.server_worker.specs.declared.slot.Slot.{Slot}
@@ -28,6 +28,29 @@ makes_none P first slots = record {
   fits = λ t s fit. fit;
 }
 
+-- ---- one slot more is another one now
+pub erred_set : {Fut S E : Type 0} (first now : List (Slot Fut S E)) (n : ℕ) (old new : Slot Fut S E) → ((t : ℕ) → n ≤ t → slice_get now t ≡ slice_get first t) → ((t : ℕ) → HasErred (slice_get now t) → slice_get first t ≡ slice_get now t)
+    → n < length now → old ≡ get_or now n old → (HasErred (Some new) → old ≡ new) → (t : ℕ) → HasErred (slice_get (set now n new) t) → slice_get first t ≡ slice_get (set now n new) t
+erred_set first now n old new rest erred inside was same t has = elim (cases_eq t n) [
+  | inl here ↦
+      let now_new : slice_get (set now n new) t ≡ Some new = subst (λ k. slice_get (set now n new) k ≡ Some new) (sym here) (slice_get-set_same now n new inside) in
+      let as_old : slice_get now t ≡ Some old = subst (λ k. slice_get now k ≡ Some old) (sym here) (slice_get_read now (length now) n old refl inside was) in
+      sym (rest t (omega (arith, here))) ∙ as_old ∙ ap Some (same (subst (λ o. HasErred o) now_new has)) ∙ sym now_new
+  | inr other ↦ erred t (subst (λ o. HasErred o) (slice_get-set_other now n t new other) has) ∙ sym (slice_get-set_other now n t new other)
+]
+
+pub fits_set : {Fut S E : Type 0} (first now : List (Slot Fut S E)) (n : ℕ) (old new : Slot Fut S E) → ((t : ℕ) (s : ServiceStatus) → fits_at s (slice_get first t) ≡ true → fits_at s (slice_get now t) ≡ true)
+    → n < length now → old ≡ get_or now n old → ((s : ServiceStatus) → fits s old ≡ true → fits s new ≡ true) → (t : ℕ) (s : ServiceStatus) → fits_at s (slice_get first t) ≡ true → fits_at s (slice_get (set now n new) t) ≡ true
+fits_set first now n old new so_far inside was fit t s was_fit = elim (cases_eq t n) [
+  | inl here ↦ rw (here, slice_get-set_same now n new inside) (fit s
+      (subst (λ o. fits_at s o ≡ true) (slice_get_read now (length now) n old refl inside was) (subst (λ k. fits_at s (slice_get now k) ≡ true) here (so_far t s was_fit))))
+  | inr other ↦ rw (slice_get-set_other now n t new other) (so_far t s was_fit)
+]
+
+-- what was not made before was not all made
+pub unmade_there : {Fut S E : Type 0} (first now : List (Slot Fut S E)) (n : ℕ) (old : Slot Fut S E) → slice_get now n ≡ slice_get first n → n < length now → length now ≡ length first → old ≡ get_or now n old → ¬ IsMade (Some old) → ¬ AllMade first
+unmade_there first now n old rest inside many was unmade all = unmade (subst (λ o. IsMade o) (sym rest ∙ slice_get_read now (length now) n old refl inside was) (all n (omega (arith, inside, many))))
+
 pub makes_one : {Fut S E : Type 0} (P : ℕ → Slot Fut S E → Type 0) (first now : List (Slot Fut S E)) (n : ℕ) (old new : Slot Fut S E) → MakesUpTo P first now n → n < length now → old ≡ get_or now n old
     → P n new → MadeOrWaits old new → ((s : ServiceStatus) → fits s old ≡ true → fits s new ≡ true) → (HasErred (Some new) → old ≡ new) → MakesUpTo P first (set now n new) (n + 1)
 makes_one P first now n old new so_far inside was is waits fit same = record {
@@ -41,18 +64,8 @@ makes_one P first now n old new so_far inside was is waits fit same = record {
     | inr other ↦ rw (slice_get-set_other now n t new other) (so_far.waits t (omega arith) (let l = length-set now n new in omega arith))
   ];
   rest = λ t above. let other : t ≢ n = omega arith in slice_get-set_other now n t new other ∙ so_far.rest t (omega arith);
-  erred = λ t has. elim (cases_eq t n) [
-    | inl here ↦
-        let now_new : slice_get (set now n new) t ≡ Some new = subst (λ k. slice_get (set now n new) k ≡ Some new) (sym here) (slice_get-set_same now n new inside) in
-        let as_old : slice_get now t ≡ Some old = subst (λ k. slice_get now k ≡ Some old) (sym here) (slice_get_read now (length now) n old refl inside was) in
-        sym (so_far.rest t (omega (arith, here))) ∙ as_old ∙ ap Some (same (subst (λ o. HasErred o) now_new has)) ∙ sym now_new
-    | inr other ↦ so_far.erred t (subst (λ o. HasErred o) (slice_get-set_other now n t new other) has) ∙ sym (slice_get-set_other now n t new other)
-  ];
-  fits = λ t s was_fit. elim (cases_eq t n) [
-    | inl here ↦ rw (here, slice_get-set_same now n new inside) (fit s
-        (subst (λ o. fits_at s o ≡ true) (slice_get_read now (length now) n old refl inside was) (subst (λ k. fits_at s (slice_get now k) ≡ true) here (so_far.fits t s was_fit))))
-    | inr other ↦ rw (slice_get-set_other now n t new other) (so_far.fits t s was_fit)
-  ];
+  erred = erred_set first now n old new so_far.rest so_far.erred inside was same;
+  fits = fits_set first now n old new so_far.fits inside was fit;
 }
 
 -- what is not being made for the first time was made, and stays so

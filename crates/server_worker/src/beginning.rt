@@ -90,7 +90,6 @@ where
 }
 
 impl<L: Link, F: ServerServiceFactory<L>> Worker<L, F> {
-    #[tactic(auto, using(crate::proofs::BeginSteps::new_fits))]
     /// A worker that begins to make the services of so many listeners. Where there is no memory, and only there, its parts come
     /// back as they were. The ring back wants two places or more: the last one is kept for the note that the worker ends by a fault.
     pub fn new(

@@ -106,7 +106,6 @@ impl<L: Link, Fut: Drop> Connections<L, Fut> {
         }
     }
 
-    #[tactic(auto, using(crate::proofs::Accounting::accounts_trans, crate::proofs::TakeSteps::takes_none, crate::proofs::TakeSteps::takes_trans))]
     // Takes what the ring holds. False where there was no memory for a parcel; it stays in the ring.
     pub(crate) fn take(&mut self, listeners: usize) -> bool
         ensures accounts { Accounts L.identity self.old self.new }

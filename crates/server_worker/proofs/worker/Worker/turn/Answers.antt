@@ -1,9 +1,10 @@
-use Rattle.std.proofs.Common.{◌∙◌, ap, refl, rules, sym, true, false, true≢false}
+use Rattle.std.proofs.Common.{◌∙◌, ap, length, refl, rules, sym, true, false, true≢false}
 use Rattle.server_worker.proofs.Accounting.{accounts_trans}
 use Rattle.server_worker.proofs.AskSteps.{checks_going, checks_stopped}
 use Rattle.server_worker.proofs.ServeSteps.{turn_no_ready}
 use Rattle.server_worker.proofs.StopTurns.{taken_gives_up, taken_polls, taken_ready, taken_returns, taken_tells, taken_told}
 use Rattle.server_worker.proofs.TakeSteps.{queues_taken, receives_taken}
+use Rattle.server_worker.proofs.TurnSteps.{unchanged}
 use Rattle.server_worker.proofs.WorkSteps.{works_taken}
 use Rattle.server_worker.proofs.worker.Worker.turn.Goals as goal
 
@@ -89,3 +90,66 @@ returns-clause-unpolled g c fault = ap (λ v. v.items) (c.turn_on.ensures.unpoll
 
 pub returns-clause-faulted : goal.returns-clause-faulted
 returns-clause-faulted g c token readiness error is = let f = c.turn_on.ensures.faulted token readiness error is in (f.0, f.1, f.2, f.3, f.4, c.turn_on.ensures.stopped)
+
+pub returns-clause-works : goal.returns-clause-works
+returns-clause-works g c = c.turn_on.ensures.works
+
+pub returns-clause-sound : goal.returns-clause-sound
+returns-clause-sound g c = c.turn_on.ensures.sound
+
+pub returns-clause-factory : goal.returns-clause-factory
+returns-clause-factory g c = c.turn_on.ensures.factory
+
+pub returns-clause-listeners : goal.returns-clause-listeners
+returns-clause-listeners g c = c.turn_on.ensures.listeners
+
+pub returns-clause-armed : goal.returns-clause-armed
+returns-clause-armed g c = c.turn_on.ensures.armed
+
+pub returns-clause-admits : goal.returns-clause-admits
+returns-clause-admits g c = c.turn_on.ensures.admits
+
+pub returns-clause-going : goal.returns-clause-going
+returns-clause-going g c = c.turn_on.ensures.going
+
+pub returns-clause-untold : goal.returns-clause-untold
+returns-clause-untold g c = c.turn_on.ensures.untold
+
+pub returns-clause-kept : goal.returns-clause-kept
+returns-clause-kept g c = c.turn_on.ensures.kept
+
+pub returns-clause-ready_told : goal.returns-clause-ready_told
+returns-clause-ready_told g c going _ made = c.turn_on.ensures.ready_told going made
+
+pub returns-clause-total : goal.returns-clause-total
+returns-clause-total g c _ = c.turn_on.ensures.total
+
+pub returns-clause-left : goal.returns-clause-left
+returns-clause-left g c b is = absurd (c.turn_on.ensures.left b is)
+
+pub returns-clause-stays : goal.returns-clause-stays
+returns-clause-stays g c going stopped = absurd (true≢false (sym stopped ∙ c.turn_on.ensures.stopped))
+
+pub returns-clause-live_total : goal.returns-clause-live_total
+returns-clause-live_total g c is = absurd (true≢false (sym (c.turn_on.new.self.hand.forces is) ∙ c.turn_on.ensures.stopped))
+
+pub returns-then-self-clause-works : goal.returns-then-self-clause-works
+returns-then-self-clause-works g c _ = c.turn_after_stop.ensures.works
+
+pub returns-then-self-clause-sound : goal.returns-then-self-clause-sound
+returns-then-self-clause-sound g c = c.turn_after_stop.ensures.works.connections
+
+pub returns-then-self-clause-factory : goal.returns-then-self-clause-factory
+returns-then-self-clause-factory g c = c.turn_after_stop.ensures.factory
+
+pub returns-then-self-clause-kept : goal.returns-then-self-clause-kept
+returns-then-self-clause-kept g c = c.turn_after_stop.ensures.kept
+
+pub returns-then-self-clause-listeners : goal.returns-then-self-clause-listeners
+returns-then-self-clause-listeners g c = ap (λ v. length v.items) c.turn_after_stop.ensures.slots
+
+pub returns-then-self-clause-ready_told : goal.returns-then-self-clause-ready_told
+returns-then-self-clause-ready_told g c going unstopped made = absurd (true≢false (sym c.turn_after_stop.ensures.stopped ∙ unstopped))
+
+pub returns-then-self-clause-armed : goal.returns-then-self-clause-armed
+returns-then-self-clause-armed g c _ token changed = absurd (unchanged c.args.self.now.services.core _ token c.turn_after_stop.ensures.core changed)
