@@ -42,10 +42,10 @@ at_some : (o : Option ℕ) (w : ℕ) → is_at o w ≡ true → o ≡ Some w
 at_some None w is = absurd (cc)
 at_some (Some v) w is = ap Some (is_same v w is)
 
-same_is : (w : ℕ) → (w == w) ≡ true
+pub same_is : (w : ℕ) → (w == w) ≡ true
 same_is w = grind (arith, nat_tests)
 
-or_later : (a b : Bool) → b ≡ true → (a || b) ≡ true
+pub or_later : (a b : Bool) → b ≡ true → (a || b) ≡ true
 or_later true b is = refl
 or_later false b is = is
 
@@ -91,3 +91,7 @@ none_sent s (e ∷ es) w may of_use off =
     no_sent s (Retired v) w may off = refl
     no_sent s (ListenerFailed t) w may off = refl
     no_sent s (ListenerEnded t) w may off = refl
+
+pub no_some : (o : Option Bool) → o ≡ None → is_some o ≡ true → ⊥
+no_some None none some = cc
+no_some (Some x) none some = cc

@@ -1,10 +1,9 @@
 -- That no more comes where nothing is left to do.
-use Rattle.std.proofs.Common.{◌≡◌, ◌≤◌, ◌<◌, ◌∷◌, [], ℕ, zero, suc, ◌+◌, Bool, true, false, cond, List, Option, None, Some, length, map, slice_get, refl, sym, ◌∙◌, ap, arith, subst, inl, inr}
-use Rattle.std.specs.Prelude.{◌⊎◌, count_by, is_some, slice_index_or, sum, nat_eq}
+use Rattle.std.proofs.Common.{◌≡◌, ◌≤◌, ◌<◌, ◌∷◌, [], ℕ, zero, suc, ◌+◌, Bool, true, false, cond, List, Option, None, Some, length, map, refl, sym, ◌∙◌, ap, arith, subst, inl, inr}
+use Rattle.std.specs.Prelude.{◌⊎◌, count_by, is_some, slice_index_or}
 use Rattle.std.specs.FinSet as set
 use Rattle.std.specs.Option.{option_map, option_map_or}
 use Rattle.std.proofs.lemmas.Bool.{cases_lt}
-use Rattle.std.proofs.lemmas.Bool.Decides.{nat_tests}
 use Rattle.std.proofs.lemmas.List.Sums.{sum_by-cons}
 use Rattle.std.proofs.lemmas.Option.{slice_get_past}
 use Rattle.std.specs.declared.alloc.Global.{Global}
@@ -28,9 +27,7 @@ use Rattle.server_jobs.specs.declared.waiting.Waiting.{Waiting}
 use Rattle.server_run.specs.Delivery.{given_at}
 use Rattle.server_run.specs.Listener.{Mark}
 use Rattle.server_run.specs.declared.entry.Entry.{Entry}
-
-same_nat : (t : ℕ) → nat_eq t t ≡ true
-same_nat t = grind (arith, nat_tests)
+use Rattle.server.proofs.CoreSteps.{same_is}
 
 retired_counts : (s : Core) (b : Bool) → ((cond b (let_go s) s).given ≡ s.given) × (s.done ≤ (cond b (let_go s) s).done)
 retired_counts s true = (refl, omega arith)
@@ -43,7 +40,7 @@ counts_step s (Command Resume) none = (refl, omega arith)
 counts_step s (Command (Stop graceful)) none = (refl, omega arith)
 counts_step s (Notice w) none = (refl, omega arith)
 counts_step s (Back w) none = (refl, omega arith)
-counts_step s (Got t) none = absurd (let is : true ≡ false = sym (same_nat t) ∙ none t in cc)
+counts_step s (Got t) none = absurd (let is : true ≡ false = sym (same_is t) ∙ none t in cc)
 counts_step s (Sent w remains) none = (refl, omega arith)
 counts_step s (RingFull w) none = (refl, omega arith)
 counts_step s (Faulted w) none = (refl, omega arith)

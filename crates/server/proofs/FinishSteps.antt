@@ -68,6 +68,7 @@ use Rattle.server.specs.Rows.{ByJob, Row, by_job, line_of, row_of, rows_of}
 use Rattle.server.specs.Starting.{HasStarted, IsStarted, RunsFor}
 use Rattle.server.specs.Tales.{IsFrom, IsLostHere, IsTale}
 use Rattle.server.specs.declared.unstarted.Unstarted.{Unstarted}
+use Rattle.server.proofs.CoreSteps.{no_some}
 use Rattle.server.proofs.Delivering.{all_from, delivers, ones}
 use Rattle.server.proofs.ForceSteps.{forced_on_line}
 use Rattle.server.proofs.CrewSteps.{marked}
@@ -144,10 +145,6 @@ module _ {Li L D : Type 0} (given : Li → ℕ) (left : Li → Option (List L)) 
       number_served = let n = ap served_count no_more in omega (arith, adds.number_served, n, small.1);
     };
   }
-
-no_some : (o : Option Bool) → o ≡ None → is_some o ≡ true → ⊥
-no_some None none some = cc
-no_some (Some x) none some = cc
 
 -- no stop was taken up at the start, and none went out
 none_told : {L : Type 0} (ps : List (Producer (Parcel L) Global AnyItems)) → All (λ p. sent p ≡ []) ps → (w : ℕ) → IsStopped ps w → ⊥

@@ -19,5 +19,7 @@ pub mod CrewSteps
 pub mod TakeBackSteps
 pub mod ReplaceSteps
 pub mod PlaceSteps
+pub mod PartSteps
+pub mod SettleSteps
 pub mod DoneSteps
 pub mod RetireSteps

@@ -1,5 +1,5 @@
 -- The workers of a run once the job of one was joined, and it was replaced or retired.
-use Rattle.std.proofs.Common.{◌≡◌, ◌≢◌, ◌≤◌, ◌<◌, ◌++◌, ◌∷◌, [], ℕ, zero, suc, ◌+◌, Bool, true, false, true≢false, List, All, Contains, Option, None, Some, IfSome, length, map, slice_get, slice_index, sum_by, refl, sym, ◌∙◌, ap, arith, subst, inl, inr, get_or-set_other, length-set}
+use Rattle.std.proofs.Common.{◌≡◌, ◌≢◌, ◌≤◌, ◌<◌, ◌++◌, ◌∷◌, [], ℕ, zero, suc, ◌+◌, Bool, true, false, true≢false, List, All, Contains, Option, None, Some, IfSome, length, map, slice_get, slice_index, sum_by, refl, sym, ◌∙◌, ap, arith, subst, inl, inr, length-set}
 use Rattle.std.specs.Prelude.{◌==◌, ◌||◌, ◌-◌, ◌^◌, cond, count_by, is_some, min, nat_lt, slice_index_or, slice_set, sum}
 use Rattle.std.specs.List.{list_any, range_with_len}
 use Rattle.std.specs.FinSet as set
@@ -9,10 +9,10 @@ use Rattle.std.proofs.lemmas.Bool.Decides.{nat_tests}
 use Rattle.std.proofs.lemmas.List.{append-nil, get_or_past, length-map}
 use Rattle.std.proofs.lemmas.List.Folds.{list_all_at}
 use Rattle.std.proofs.lemmas.List.FromFn.{get_or-range_with_len, length-range_with_len}
-use Rattle.std.proofs.lemmas.Option.{slice_get-get_or, slice_get_past, slice_get_read}
+use Rattle.std.proofs.lemmas.Option.{slice_get_past, slice_get_read, slice_get_within}
 use Rattle.std.proofs.lemmas.List.Sums.{sum_by-append, sum_by-cons}
 use Rattle.std.specs.declared.alloc.Global.{Global}
-use Rattle.rtrb.specs.Ring.{ConsumerLooked, IsPair, ProducerLooked, known_items, received, sent}
+use Rattle.rtrb.specs.Ring.{IsPair, known_items, received, sent}
 use Rattle.rtrb.specs.declared.AnyItems.{AnyItems}
 use Rattle.rtrb.specs.declared.consumer.Consumer.{Consumer}
 use Rattle.rtrb.specs.declared.producer.Producer.{Producer}
@@ -42,17 +42,19 @@ use Rattle.server_jobs.specs.declared.running.Running.{Running}
 use Rattle.server_run.specs.Outcome.{is_stopped}
 use Rattle.server_run.specs.Serving.{MayFault}
 use Rattle.server_run.specs.declared.outcome.Outcome.{Outcome}
+use Rattle.server_worker.proofs.Lists.{slice_get-set_other, slice_get-set_same}
+use Rattle.server.specs.Parting.{IsParted}
 use Rattle.server.specs.Replacing.{Crew, HasFaulted, IsEven, IsRetired, IsSuccessor, KeepsOthers, MayTakeBack, Recalls, Runs, all_back}
 use Rattle.server.specs.Retiring.{IsUnfaulted, MayEndEarly, vacancy}
 use Rattle.server.specs.Rows.{by_job, line_of}
 use Rattle.server.specs.Starting.{RunsFor}
+use Rattle.server.proofs.CoreSteps.{or_later, same_is}
 use Rattle.server.proofs.CrewSteps.{at_place}
 use Rattle.server.proofs.ReplaceSteps.{all_taken, crew_after, early_there, fault_there, keeps_looked, keeps_rings, keeps_taken, keeps_trans, makes_there, off_replaced, many_there, owed_calm, place_there, runs_anew, sent_at, settled_now}
-use Rattle.server.proofs.RetireSteps.{all_vacant, get_here}
+use Rattle.server.proofs.RetireSteps.{all_vacant}
 use Rattle.server.proofs.Rows.{map_at, runs_kept}
 use Rattle.server.proofs.TakeBackSteps.{received_same}
 use Rattle.worker_job.specs.Jobs.{notes_of}
-use Rattle.worker_job.specs.Promise.{HandsOver}
 use Rattle.worker_job.specs.declared.departure.Departure.{Departure}
 use Rattle.worker_job.specs.declared.worker_job.WorkerJob.{WorkerJob}
 
@@ -60,11 +62,6 @@ pub there : {X : Type 0} (xs : List X) (w : ℕ) → w < length xs → (x : X) �
 there [] w inside = absurd (omega arith)
 there (x ∷ xs) zero inside = (x, refl)
 there (x ∷ xs) (suc w) inside = there xs w (omega arith)
-
-pub within : {X : Type 0} (xs : List X) (w : ℕ) (x : X) → slice_get xs w ≡ Some x → w < length xs
-within [] w x at = absurd (cc)
-within (y ∷ ys) zero x at = omega arith
-within (y ∷ ys) (suc w) x at = let r = within ys w x at in omega (arith, r)
 
 -- where one is found, it is counted
 found : {X : Type 0} (test : X → Bool) (ys : List X) → list_any test ys ≡ true → 0 < count_by test ys
@@ -78,7 +75,7 @@ found {X = X} test (y ∷ ys) has = by_test (test y) refl (λ rest. found test y
 counted : {X : Type 0} (test : X → Bool) (xs ys : List X) → list_any test ys ≡ true → 0 < count_by test (xs ++ ys)
 counted {X = X} test xs ys has = let all = sum_by-append (λ (x : X). cond (test x) 1 0) xs ys in let some = found test ys has in omega (arith, all, some)
 
-some_is : {X : Type 0} (P : X → Type 0) (o : Option X) (x : X) → o ≡ Some x → IfSome o P → P x
+pub some_is : {X : Type 0} (P : X → Type 0) (o : Option X) (x : X) → o ≡ Some x → IfSome o P → P x
 some_is P o x is has = rw is at has
 
 all_zero : (xs : List ℕ) → ((v : ℕ) → slice_index xs v ≡ 0) → sum xs ≡ 0
@@ -86,25 +83,29 @@ all_zero [] each = refl
 all_zero (x ∷ xs) each = let a = sum_by-cons (λ y. y) x xs in let here = each zero in let rest = all_zero xs (λ v. each (suc v)) in omega (arith, a, here, rest)
 
 module _ {F L E I : Type 0} (may_serve : F → ℕ → L → Ended L → Type 0) (may_leave : F → ℕ → L → L → Type 0) (may_ready : F → ℕ → Readiness E → Type 0) (may_init : F → ℕ → I → Type 0) (may_make : F → ℕ → Type 0)
-    (identity : L → Identity) (factory : F) (listeners : ℕ) (a b : Acceptor L) (w : ℕ) (rs : List (Option (Running (WorkerJob L F) (Handed L F (Departure E I))))) (r : Running (WorkerJob L F) (Handed L F (Departure E I)))
+    (identity : L → Identity) (factory : F) (listeners : ℕ) (a b : Acceptor L) (w : ℕ) (rs ss : List (Option (Running (WorkerJob L F) (Handed L F (Departure E I))))) (handed : Handed L F (Departure E I))
     (crew : Crew may_serve may_leave may_ready may_init may_make identity factory listeners a rs) (faulted : HasFaulted may_serve may_leave may_ready may_init may_make identity factory listeners a w rs) (even : IsEven identity a)
-    (at_r : slice_get rs w ≡ Some (Some r)) (keeps : KeepsOthers w a b) (came_w : received_at (rings_back b) w ≡ received_at (rings_back a) w) (same_out : (core_of b).out ≡ (core_of a).out) (off : in_order (core_of b).order w ≡ false)
-    (out handed : Handed L F (Departure E I)) (promised : HandsOver identity may_serve may_leave may_ready may_init may_make (job_of r) out)
-    (looked_in : ConsumerLooked out.parcels handed.parcels) (looked_out : ProducerLooked out.notes handed.notes)
-    (same : (handed.factory ≡ out.factory) × (handed.owed ≡ out.owed) × (handed.rest ≡ out.rest) × (handed.departure ≡ out.departure))
-    (to_it : received handed.parcels ++ known_items handed.parcels ≡ sent_to (rings_to b) w) (from_it : IfSome (slice_get (rings_back b) w) (λ c. received c ++ known_items c ≡ sent handed.notes))
-    (pair : IfSome (slice_get (rings_back b) w) (λ c. IsPair handed.notes c)) where
+    (parted : IsParted may_serve may_leave may_ready may_init may_make identity a b w rs ss handed) where
   abbrev Fault : Type 0
   Fault = MayFault (may_ready factory) (may_init factory) listeners
 
   number : w < length rs
-  number = within rs w (Some r) at_r
+  number = slice_get_within rs w (Some parted.ended) parted.was
+
+  many : length ss ≡ length rs
+  many = ap length parted.vacant ∙ length-set rs w None
+
+  elsewhere : (v : ℕ) → v ≢ w → slice_get ss v ≡ slice_get rs v
+  elsewhere v other = ap (λ xs. slice_get xs v) parted.vacant ∙ slice_get-set_other rs w v None other
+
+  vacant_now : slice_get ss w ≡ Some None
+  vacant_now = ap (λ xs. slice_get xs w) parted.vacant ∙ slice_get-set_same rs w None number
 
   p_at : (p : Producer (Parcel L) Global AnyItems) × (slice_get (rings_to b) w ≡ Some p)
-  p_at = there (rings_to b) w (let e = ap length keeps.rings.0 in let m = crew.as_many.0 in let i = number in omega (arith, e, m, i, length-map (rings_to b) ring_in, length-map (rings_to a) ring_in))
+  p_at = there (rings_to b) w (let e = ap length parted.keeps.rings.0 in let m = crew.as_many.0 in let i = number in omega (arith, e, m, i, length-map (rings_to b) ring_in, length-map (rings_to a) ring_in))
 
   n_at : (n : Consumer (Note L) Global AnyItems) × (slice_get (rings_back b) w ≡ Some n)
-  n_at = there (rings_back b) w (let e = ap length keeps.rings.1 in let m = crew.as_many.1 in let i = number in omega (arith, e, m, i, length-map (rings_back b) ring_out, length-map (rings_back a) ring_out))
+  n_at = there (rings_back b) w (let e = ap length parted.keeps.rings.1 in let m = crew.as_many.1 in let i = number in omega (arith, e, m, i, length-map (rings_back b) ring_out, length-map (rings_back a) ring_out))
 
   abbrev p : Producer (Parcel L) Global AnyItems
   p = p_at.0
@@ -113,22 +114,22 @@ module _ {F L E I : Type 0} (may_serve : F → ℕ → L → Ended L → Type 0)
   n = n_at.0
 
   first_p : (q : Producer (Parcel L) Global AnyItems) × (slice_get (rings_to a) w ≡ Some q) × (ring_in p ≡ ring_in q)
-  first_p = map_at ring_in (rings_to a) (rings_to b) w p keeps.rings.0 p_at.1
+  first_p = map_at ring_in (rings_to a) (rings_to b) w p parted.keeps.rings.0 p_at.1
 
   first_n : (m : Consumer (Note L) Global AnyItems) × (slice_get (rings_back a) w ≡ Some m) × (ring_out n ≡ ring_out m)
-  first_n = map_at ring_out (rings_back a) (rings_back b) w n keeps.rings.1 n_at.1
+  first_n = map_at ring_out (rings_back a) (rings_back b) w n parted.keeps.rings.1 n_at.1
 
   came : received n ≡ received first_n.0
-  came = sym (at_place (λ c. received c) (rings_back b) w n [] n_at.1) ∙ came_w ∙ at_place (λ c. received c) (rings_back a) w first_n.0 [] first_n.1
+  came = sym (at_place (λ c. received c) (rings_back b) w n [] n_at.1) ∙ parted.came ∙ at_place (λ c. received c) (rings_back a) w first_n.0 [] first_n.1
 
-  runs_first : Runs may_serve may_leave may_ready may_init may_make identity factory listeners (length rs) w (core_of a) (line_of first_p.0 first_n.0 r)
-  runs_first = crew.each w first_p.0 first_n.0 (Some r) first_p.1 first_n.1 at_r
+  runs_first : Runs may_serve may_leave may_ready may_init may_make identity factory listeners (length rs) w (core_of a) (line_of first_p.0 first_n.0 parted.ended)
+  runs_first = crew.each w first_p.0 first_n.0 (Some parted.ended) first_p.1 first_n.1 parted.was
 
-  runs : RunsFor may_serve may_leave may_ready may_init may_make identity (length rs) factory listeners (line_of p n r)
-  runs = runs_kept may_serve may_leave may_ready may_init may_make identity (length rs) factory listeners first_p.0 p first_n.0 n r first_p.2 first_n.2 runs_first.runs
+  runs : RunsFor may_serve may_leave may_ready may_init may_make identity (length rs) factory listeners (line_of p n parted.ended)
+  runs = runs_kept may_serve may_leave may_ready may_init may_make identity (length rs) factory listeners first_p.0 p first_n.0 n parted.ended first_p.2 first_n.2 runs_first.runs
 
-  told : Contains (received first_n.0) Ready × ((more : List (Note L)) × (received first_n.0 ≡ sent (notes_of (job_of r)) ++ more) × Contains more Faulted)
-  told = faulted first_p.0 first_n.0 r first_p.1 first_n.1 at_r
+  told : Contains (received first_n.0) Ready × ((more : List (Note L)) × (received first_n.0 ≡ sent (notes_of (job_of parted.ended)) ++ more) × Contains more Faulted)
+  told = faulted first_p.0 first_n.0 parted.ended first_p.1 first_n.1 parted.was
 
   abbrev more : List (Note L)
   more = told.1.0
@@ -136,61 +137,53 @@ module _ {F L E I : Type 0} (may_serve : F → ℕ → L → Ended L → Type 0)
   ready_now : Contains (received n) Ready
   ready_now = subst (λ ns. Contains ns Ready) (sym came) told.0
 
-  since_now : received n ≡ sent (notes_of (job_of r)) ++ more
+  since_now : received n ≡ sent (notes_of (job_of parted.ended)) ++ more
   since_now = came ∙ told.1.1
 
   to_p : received handed.parcels ++ known_items handed.parcels ≡ sent p
-  to_p = to_it ∙ at_place (λ x. sent x) (rings_to b) w p [] p_at.1
+  to_p = parted.to_it ∙ at_place (λ x. sent x) (rings_to b) w p [] p_at.1
 
   from_n : received n ++ known_items n ≡ sent handed.notes
-  from_n = some_is (λ c. received c ++ known_items c ≡ sent handed.notes) (slice_get (rings_back b) w) n n_at.1 from_it
+  from_n = some_is (λ c. received c ++ known_items c ≡ sent handed.notes) (slice_get (rings_back b) w) n n_at.1 parted.from_it
 
   pub fault_now : Fault
-  fault_now = fault_there may_serve may_leave may_ready may_init may_make identity factory listeners (length rs) w number p n r runs out handed promised looked_in looked_out same to_p from_n ready_now more since_now told.1.2
+  fault_now = fault_there may_serve may_leave may_ready may_init may_make identity factory listeners (length rs) w number p n parted.ended runs parted.out handed parted.promised parted.inward parted.outward parted.same to_p from_n ready_now more since_now told.1.2
 
   pub calm_now : All (λ e. is_stopped e.outcome ≡ true → ⊥) (entries_of entry_of_note handed.owed.items)
-  calm_now = owed_calm may_serve may_leave may_ready may_init may_make identity factory listeners (length rs) w number p n r runs out handed promised looked_in looked_out same to_p from_n ready_now more since_now told.1.2
+  calm_now = owed_calm may_serve may_leave may_ready may_init may_make identity factory listeners (length rs) w number p n parted.ended runs parted.out handed parted.promised parted.inward parted.outward parted.same to_p from_n ready_now more since_now told.1.2
 
   taken_now : received n ≡ sent handed.notes
-  taken_now = all_taken may_serve may_leave may_ready may_init may_make identity factory listeners (length rs) w number p n r runs out handed promised looked_in looked_out same to_p from_n ready_now more since_now told.1.2
+  taken_now = all_taken may_serve may_leave may_ready may_init may_make identity factory listeners (length rs) w number p n parted.ended runs parted.out handed parted.promised parted.inward parted.outward parted.same to_p from_n ready_now more since_now told.1.2
 
   put_now : count_put identity (rings_to a) w ≡ sum_by (of_parcel identity (λ c. 1)) (sent p)
-  put_now = at_place (λ x. sum_by (of_parcel identity (λ c. 1)) (sent x)) (rings_to a) w first_p.0 0 first_p.1 ∙ ap (sum_by (of_parcel identity (λ c. 1))) (sym (sent_at may_serve may_leave may_ready may_init may_make identity factory listeners w a b keeps w first_p.0 p first_p.1 p_at.1))
+  put_now = at_place (λ x. sum_by (of_parcel identity (λ c. 1)) (sent x)) (rings_to a) w first_p.0 0 first_p.1 ∙ ap (sum_by (of_parcel identity (λ c. 1))) (sym (sent_at may_serve may_leave may_ready may_init may_make identity factory listeners w a b parted.keeps w first_p.0 p first_p.1 p_at.1))
 
   back_now : count_back identity (rings_back a) w ≡ sum_by (of_note identity (λ c. 1)) (received n)
   back_now = at_place (λ x. sum_by (of_note identity (λ c. 1)) (received x)) (rings_back a) w first_n.0 0 first_n.1 ∙ ap (sum_by (of_note identity (λ c. 1))) (sym came)
 
   many_now : (o : Outcome) → length (all_back o w handed) ≡ slice_index (core_of b).out w
-  many_now o = many_there may_serve may_leave may_ready may_init may_make identity factory listeners (length rs) w number p n r runs out handed promised looked_in looked_out same to_p from_n ready_now more since_now told.1.2
-      o (count_put identity (rings_to a) w) (count_back identity (rings_back a) w) (slice_index (core_of b).out w) put_now back_now (even w ∙ ap (λ x. count_back identity (rings_back a) w + slice_index x w) (sym same_out))
+  many_now o = many_there may_serve may_leave may_ready may_init may_make identity factory listeners (length rs) w number p n parted.ended runs parted.out handed parted.promised parted.inward parted.outward parted.same to_p from_n ready_now more since_now told.1.2
+      o (count_put identity (rings_to a) w) (count_back identity (rings_back a) w) (slice_index (core_of b).out w) put_now back_now (even w ∙ ap (λ x. count_back identity (rings_back a) w + slice_index x w) (sym parted.out_same))
 
   pub may_now : w < workers_of b → (o : Outcome) → MayTakeBack b w handed.notes (length (all_back o w handed))
   may_now inside o = record {
     number = inside;
-    pair = pair;
+    pair = parted.pair_from;
     all = at_place (λ c. received c) (rings_back b) w n [] n_at.1 ∙ taken_now;
-    place = place_there may_serve may_leave may_ready may_init may_make identity factory listeners (length rs) w number p n r runs out handed promised looked_in looked_out same to_p from_n ready_now more since_now told.1.2;
-    off = off;
+    place = place_there may_serve may_leave may_ready may_init may_make identity factory listeners (length rs) w number p n parted.ended runs parted.out handed parted.promised parted.inward parted.outward parted.same to_p from_n ready_now more since_now told.1.2;
+    off = parted.off;
     enough = let m = many_now o in omega (arith, m);
   }
 
-  pub to_now : IfSome (slice_get (rings_to b) w) (λ x. IsPair x handed.parcels)
-  to_now = subst (λ o. IfSome o (λ x. IsPair x handed.parcels)) (sym p_at.1) (
-    looked_in.0.0.0 ∙ promised.accounts.same_inward.0.0 ∙ runs.to_it.0,
-    looked_in.0.0.1 ∙ promised.accounts.same_inward.0.1 ∙ runs.to_it.1,
-    looked_in.0.0.2 ∙ promised.accounts.same_inward.0.2 ∙ runs.to_it.2,
-    looked_in.0.0.3 ∙ promised.accounts.same_inward.0.3 ∙ runs.to_it.3,
-  )
-
-  pub early_now : IsUnfaulted handed.departure → (1 ≤ length (sent (notes_of (job_of r)))) × ((error : Option (ℕ × I)) × MayEndEarly (may_init factory) listeners error)
-  early_now = early_there may_serve may_leave may_ready may_init may_make identity factory listeners (length rs) w number p n r runs out handed promised looked_in looked_out same to_p from_n ready_now more since_now told.1.2
+  pub early_now : IsUnfaulted handed.departure → (1 ≤ length (sent (notes_of (job_of parted.ended)))) × ((error : Option (ℕ × I)) × MayEndEarly (may_init factory) listeners error)
+  early_now = early_there may_serve may_leave may_ready may_init may_make identity factory listeners (length rs) w number p n parted.ended runs parted.out handed parted.promised parted.inward parted.outward parted.same to_p from_n ready_now more since_now told.1.2
 
   -- a stop that is left in its ring was sent
   pub stop_there : list_any is_stop (known_items handed.parcels) ≡ true → IsStopped (rings_to a) w
   stop_there has = subst (λ ps. 0 < count_by is_stop ps) sent_there (counted is_stop (received handed.parcels) (known_items handed.parcels) has)
     where
       sent_there : received handed.parcels ++ known_items handed.parcels ≡ sent_to (rings_to a) w
-      sent_there = to_p ∙ sent_at may_serve may_leave may_ready may_init may_make identity factory listeners w a b keeps w first_p.0 p first_p.1 p_at.1 ∙ sym (at_place (λ x. sent x) (rings_to a) w first_p.0 [] first_p.1)
+      sent_there = to_p ∙ sent_at may_serve may_leave may_ready may_init may_make identity factory listeners w a b parted.keeps w first_p.0 p first_p.1 p_at.1 ∙ sym (at_place (λ x. sent x) (rings_to a) w first_p.0 [] first_p.1)
 
   -- it was not retired
   pub kept_first : set.contains (core_of a).retired w ≡ false
@@ -202,7 +195,7 @@ module _ {F L E I : Type 0} (may_serve : F → ℕ → L → Ended L → Type 0)
   -- once it was taken back
   module _ (c d : Acceptor L) (recalls : Recalls b c w handed) (onward : KeepsOthers w c d) (came_d : received_at (rings_back d) w ≡ received_at (rings_back c) w) where
     ends : KeepsOthers w a d
-    ends = keeps_trans w a b d keeps (keeps_trans w b c d (keeps_taken w b c handed.notes recalls.notes (all_back recalls.outcome w handed) recalls.takes) onward)
+    ends = keeps_trans w a b d parted.keeps (keeps_trans w b c d (keeps_taken w b c handed.notes recalls.notes (all_back recalls.outcome w handed) recalls.takes) onward)
 
     sent_same : (q : Producer (Parcel L) Global AnyItems) → slice_get (rings_to d) w ≡ Some q → sent q ≡ sent p
     sent_same q at_q = sent_at may_serve may_leave may_ready may_init may_make identity factory listeners w b d (keeps_trans w b c d (keeps_taken w b c handed.notes recalls.notes (all_back recalls.outcome w handed) recalls.takes) onward) w p q p_at.1 at_q
@@ -210,45 +203,53 @@ module _ {F L E I : Type 0} (may_serve : F → ℕ → L → Ended L → Type 0)
     came_same : (m : Consumer (Note L) Global AnyItems) → slice_get (rings_back d) w ≡ Some m → received m ≡ sent recalls.notes
     came_same m at_m = sym (at_place (λ x. received x) (rings_back d) w m [] at_m) ∙ came_d ∙ recalls.takes.all
 
-    module _ (ss : List (Option (Running (WorkerJob L F) (Handed L F (Departure E I))))) (many : length ss ≡ length rs) (elsewhere : (v : ℕ) → v ≢ w → slice_get ss v ≡ slice_get rs v) where
-      -- none takes its place
-      pub crew_retired : slice_get ss w ≡ Some None → in_order (core_of d).order w ≡ false → set.contains (core_of d).retired w ≡ true → Crew may_serve may_leave may_ready may_init may_make identity factory listeners d ss
-      crew_retired none off_d gone_d = crew_after may_serve may_leave may_ready may_init may_make identity factory listeners w a d ends rs ss many elsewhere crew (λ q m o at_q at_m at_o.
-          let same_one : Some None ≡ Some o = sym none ∙ at_o in
-          let is : None ≡ o = cc in
-          subst (λ x. by_job (Runs may_serve may_leave may_ready may_init may_make identity factory listeners (length rs) w (core_of d)) (IsRetired {E = E} {I = I} may_serve may_leave may_ready may_init may_make identity factory listeners (length rs) w (core_of d)) q m x) is
-          (record {
-            settled = settled_now may_serve may_leave may_ready may_init may_make identity factory listeners (length rs) w number p n r runs out handed promised looked_in looked_out same to_p from_n ready_now more since_now told.1.2
-                recalls.outcome recalls.as_left recalls.notes recalls.takes.went q m (sent_same q at_q) (came_same m at_m);
-            off = off_d;
-            gone = gone_d;
-            makes = makes_there may_serve may_leave may_ready may_init may_make identity factory listeners (length rs) w number p n r runs out handed promised looked_in looked_out same to_p from_n ready_now more since_now told.1.2;
-            fault = fault_now;
-          }))
+    -- none takes its place
+    pub crew_retired : in_order (core_of d).order w ≡ false → set.contains (core_of d).retired w ≡ true → Crew may_serve may_leave may_ready may_init may_make identity factory listeners d ss
+    crew_retired off_d gone_d = crew_after may_serve may_leave may_ready may_init may_make identity factory listeners w a d ends rs ss many elsewhere crew (λ q m o at_q at_m at_o.
+        let same_one : Some None ≡ Some o = sym vacant_now ∙ at_o in
+        let is : None ≡ o = cc in
+        subst (λ x. by_job (Runs may_serve may_leave may_ready may_init may_make identity factory listeners (length rs) w (core_of d)) (IsRetired {E = E} {I = I} may_serve may_leave may_ready may_init may_make identity factory listeners (length rs) w (core_of d)) q m x) is
+        (record {
+          settled = settled_now may_serve may_leave may_ready may_init may_make identity factory listeners (length rs) w number p n parted.ended runs parted.out handed parted.promised parted.inward parted.outward parted.same to_p from_n ready_now more since_now told.1.2
+              recalls.outcome recalls.as_left recalls.notes recalls.takes.went q m (sent_same q at_q) (came_same m at_m);
+          off = off_d;
+          gone = gone_d;
+          makes = makes_there may_serve may_leave may_ready may_init may_make identity factory listeners (length rs) w number p n parted.ended runs parted.out handed parted.promised parted.inward parted.outward parted.same to_p from_n ready_now more since_now told.1.2;
+          fault = fault_now;
+        }))
 
-      -- another one does
-      pub crew_replaced : (job : WorkerJob L F) (s : Running (WorkerJob L F) (Handed L F (Departure E I))) → IsSuccessor c w handed listeners job → job_of s ≡ job → rings_back d ≡ rings_back c → slice_get ss w ≡ Some (Some s)
-          → (core_of d).retired ≡ (core_of a).retired → Crew may_serve may_leave may_ready may_init may_make identity factory listeners d ss
-      crew_replaced job s succeeds is same_back at_s retired = crew_after may_serve may_leave may_ready may_init may_make identity factory listeners w a d ends rs ss many elsewhere crew (λ q m o at_q at_m at_o.
-          let same_one : Some (Some s) ≡ Some o = sym at_s ∙ at_o in
-          let one : Some s ≡ o = cc in
-          let now = succeeds.all in
-          let sends : sent (notes_of job) ≡ sent recalls.notes = sym now ∙ recalls.takes.all in
-          subst (λ x. by_job (Runs may_serve may_leave may_ready may_init may_make identity factory listeners (length rs) w (core_of d)) (IsRetired {E = E} {I = I} may_serve may_leave may_ready may_init may_make identity factory listeners (length rs) w (core_of d)) q m x) one
-          (record {
-            runs = runs_anew may_serve may_leave may_ready may_init may_make identity factory listeners (length rs) w number p n r runs out handed promised looked_in looked_out same to_p from_n ready_now more since_now told.1.2
-                recalls.outcome recalls.as_left recalls.notes recalls.takes.went job succeeds.parcels succeeds.came succeeds.notes sends succeeds.unstopped succeeds.same_factory succeeds.as_many
-                q m s is (ring_same q at_q) (some_is (λ x. IsPair (notes_of job) x) (slice_get (rings_back c) w) m (ap (λ ns. slice_get ns w) (sym same_back) ∙ at_m) succeeds.pair);
-            more = [];
-            since = came_same m at_m ∙ sym sends ∙ ap (λ j. sent (notes_of j)) (sym is) ∙ sym (append-nil (sent (notes_of (job_of s))));
-            kept = ap (λ x. set.contains x w) retired ∙ runs_first.kept;
-          }))
-        where
-          ring_same : (q : Producer (Parcel L) Global AnyItems) → slice_get (rings_to d) w ≡ Some q → ring_in q ≡ ring_in p
-          ring_same q at_q =
-              let x = map_at ring_in (rings_to b) (rings_to d) w q (onward.rings.0 ∙ recalls.takes.rings.0) at_q in
-              let same_one : Some x.0 ≡ Some p = sym x.1 ∙ p_at.1 in
-              let one : x.0 ≡ p = cc in x.2 ∙ ap ring_in one
+    -- another one does
+    pub crew_replaced : (ts : List (Option (Running (WorkerJob L F) (Handed L F (Departure E I))))) (job : WorkerJob L F) (s : Running (WorkerJob L F) (Handed L F (Departure E I))) → ts ≡ slice_set ss w (Some s) → IsSuccessor c w handed listeners job
+        → job_of s ≡ job → rings_back d ≡ rings_back c → (core_of d).retired ≡ (core_of a).retired → Crew may_serve may_leave may_ready may_init may_make identity factory listeners d ts
+    crew_replaced ts job s filled succeeds is same_back retired = crew_after may_serve may_leave may_ready may_init may_make identity factory listeners w a d ends rs ts many_then elsewhere_then crew (λ q m o at_q at_m at_o.
+        let same_one : Some (Some s) ≡ Some o = sym at_then ∙ at_o in
+        let one : Some s ≡ o = cc in
+        let now = succeeds.all in
+        let sends : sent (notes_of job) ≡ sent recalls.notes = sym now ∙ recalls.takes.all in
+        subst (λ x. by_job (Runs may_serve may_leave may_ready may_init may_make identity factory listeners (length rs) w (core_of d)) (IsRetired {E = E} {I = I} may_serve may_leave may_ready may_init may_make identity factory listeners (length rs) w (core_of d)) q m x) one
+        (record {
+          runs = runs_anew may_serve may_leave may_ready may_init may_make identity factory listeners (length rs) w number p n parted.ended runs parted.out handed parted.promised parted.inward parted.outward parted.same to_p from_n ready_now more since_now told.1.2
+              recalls.outcome recalls.as_left recalls.notes recalls.takes.went job succeeds.parcels succeeds.came succeeds.notes sends succeeds.unstopped succeeds.same_factory succeeds.as_many
+              q m s is (ring_same q at_q) (some_is (λ x. IsPair (notes_of job) x) (slice_get (rings_back c) w) m (ap (λ ns. slice_get ns w) (sym same_back) ∙ at_m) succeeds.pair);
+          more = [];
+          since = came_same m at_m ∙ sym sends ∙ ap (λ j. sent (notes_of j)) (sym is) ∙ sym (append-nil (sent (notes_of (job_of s))));
+          kept = ap (λ x. set.contains x w) retired ∙ runs_first.kept;
+        }))
+      where
+        many_then : length ts ≡ length rs
+        many_then = ap length filled ∙ length-set ss w (Some s) ∙ many
+
+        elsewhere_then : (v : ℕ) → v ≢ w → slice_get ts v ≡ slice_get rs v
+        elsewhere_then v other = ap (λ xs. slice_get xs v) filled ∙ slice_get-set_other ss w v (Some s) other ∙ elsewhere v other
+
+        at_then : slice_get ts w ≡ Some (Some s)
+        at_then = ap (λ xs. slice_get xs w) filled ∙ slice_get-set_same ss w (Some s) (subst (λ n. w < n) (sym many) number)
+
+        ring_same : (q : Producer (Parcel L) Global AnyItems) → slice_get (rings_to d) w ≡ Some q → ring_in q ≡ ring_in p
+        ring_same q at_q =
+            let x = map_at ring_in (rings_to b) (rings_to d) w q (onward.rings.0 ∙ recalls.takes.rings.0) at_q in
+            let same_one : Some x.0 ≡ Some p = sym x.1 ∙ p_at.1 in
+            let one : x.0 ≡ p = cc in x.2 ∙ ap ring_in one
 
     -- nothing is out there
     pub none_there_now : (core_of d).out ≡ (core_of c).out → slice_index (core_of d).out w ≡ 0
@@ -259,7 +260,7 @@ module _ {F L E I : Type 0} (may_serve : F → ℕ → L → Ended L → Type 0)
     even_now same_d v = elim (cases_eq v w) [
       | inl is ↦ subst (λ x. count_put identity (rings_to d) x ≡ count_back identity (rings_back d) x + slice_index (core_of d).out x) (sym is) here
       | inr other ↦
-          let o : slice_index (core_of d).out v ≡ slice_index (core_of a).out v = ap (λ xs. slice_index xs v) same_d ∙ recalls.takes.out_others v other ∙ ap (λ xs. slice_index xs v) same_out in
+          let o : slice_index (core_of d).out v ≡ slice_index (core_of a).out v = ap (λ xs. slice_index xs v) same_d ∙ recalls.takes.out_others v other ∙ ap (λ xs. slice_index xs v) parted.out_same in
           put_same v ∙ even v ∙ sym (ap (λ x. count_back identity (rings_back a) v + x) o) ∙ ap (λ x. x + slice_index (core_of d).out v) (sym (back_same v other))
     ]
       where
@@ -283,7 +284,7 @@ module _ {F L E I : Type 0} (may_serve : F → ℕ → L → Ended L → Type 0)
         here =
             let q = there (rings_to d) w (let e = ap length ends.rings.0 in let m = crew.as_many.0 in let i = number in omega (arith, e, m, i, length-map (rings_to d) ring_in, length-map (rings_to a) ring_in)) in
             let m = there (rings_back d) w (let e = ap length ends.rings.1 in let m = crew.as_many.1 in let i = number in omega (arith, e, m, i, length-map (rings_back d) ring_out, length-map (rings_back a) ring_out)) in
-            let settled = settled_now may_serve may_leave may_ready may_init may_make identity factory listeners (length rs) w number p n r runs out handed promised looked_in looked_out same to_p from_n ready_now more since_now told.1.2
+            let settled = settled_now may_serve may_leave may_ready may_init may_make identity factory listeners (length rs) w number p n parted.ended runs parted.out handed parted.promised parted.inward parted.outward parted.same to_p from_n ready_now more since_now told.1.2
             recalls.outcome recalls.as_left recalls.notes recalls.takes.went q.0 m.0 (sent_same q.0 q.1) (came_same m.0 m.1) in
             let balanced = settled.balanced (λ c. 1) in
             let put = at_place (λ x. sum_by (of_parcel identity (λ c. 1)) (sent x)) (rings_to d) w q.0 0 q.1 in
@@ -297,26 +298,15 @@ may_return_now s w inside off kept none =
     let empty : (slice_index s.out w == 0) ≡ true = grind (arith, nat_tests) in
     rw (is_there, off, kept, empty) refl
 
-same_number : (w : ℕ) → (w == w) ≡ true
-same_number w = grind (arith, nat_tests)
-
-or_true : (a : Bool) → (a || true) ≡ true
-or_true true = refl
-or_true false = refl
-
-pub no_stop : (stopping : Option Bool) → stopping ≡ None → is_some stopping ≡ true → ⊥
-no_stop None none some = cc
-no_stop (Some graceful) none some = cc
-
 -- one that is replaced is in order
 pub placed_now : (w : ℕ) (s t : Core) (put : Bool) → may_return s w ≡ true → (put ≡ true → t ≡ step s (Replaced w)) → (put ≡ false → (t ≡ s) × (allowed s (Replaced w) ≡ false)) → in_order t.order w ≡ true
-placed_now w s t true may put refused = ap (λ (k : Core). in_order k.order w) (put refl) ∙ in_order-push s.order w w ∙ ap (λ b. in_order s.order w || (b || false)) (same_number w) ∙ or_true (in_order s.order w)
+placed_now w s t true may put refused = ap (λ (k : Core). in_order k.order w) (put refl) ∙ in_order-push s.order w w ∙ ap (λ b. in_order s.order w || (b || false)) (same_is w) ∙ or_later (in_order s.order w) true refl
 placed_now w s t false may put refused = absurd (true≢false (sym may ∙ (refused refl).1))
 
 -- one that is retired is so
 pub gone_now : {X : Type 0} (w : ℕ) (s t : Core) → may_return s w ≡ true → (allowed s (Retired w) ≡ true → (t ≡ step s (Retired w)) × X) → set.contains t.retired w ≡ true
 gone_now w s t may retired = ap (λ (k : Core). set.contains k.retired w) (retired may).0 ∙ by_left (all_retired (record s { retired = set.insert s.retired w }))
-    ∙ contains_inserted s.retired w w ∙ ap (λ b. b || set.contains s.retired w) (same_number w)
+    ∙ contains_inserted s.retired w w ∙ ap (λ b. b || set.contains s.retired w) (same_is w)
   where
     by_left : (b : Bool) → set.contains (cond b (let_go (record s { retired = set.insert s.retired w })) (record s { retired = set.insert s.retired w })).retired w ≡ set.contains (set.insert s.retired w) w
     by_left true = refl
@@ -335,36 +325,6 @@ replaced_keeps w s t false put refused =
 -- as much is out as before
 pub same_total : (s t : Core) (room : ℕ) → t.out ≡ s.out → t.waiting ≡ s.waiting → sum s.out + held s.waiting ≤ room → sum t.out + held t.waiting ≤ room
 same_total s t room out waiting fits = let o = ap sum out in let w = ap held waiting in omega (arith, o, w, fits)
-
--- the ends of the rings that a joined worker had, and those that stayed here
-module _ {F L E I : Type 0} (may_serve : F → ℕ → L → Ended L → Type 0) (may_leave : F → ℕ → L → L → Type 0) (may_ready : F → ℕ → Readiness E → Type 0) (may_init : F → ℕ → I → Type 0) (may_make : F → ℕ → Type 0)
-    (identity : L → Identity) (factory : F) (listeners : ℕ) (a : Acceptor L) (w : ℕ) (rs : List (Option (Running (WorkerJob L F) (Handed L F (Departure E I))))) (r : Running (WorkerJob L F) (Handed L F (Departure E I)))
-    (crew : Crew may_serve may_leave may_ready may_init may_make identity factory listeners a rs) (at_r : slice_get rs w ≡ Some (Some r))
-    (out : Handed L F (Departure E I)) (promised : HandsOver identity may_serve may_leave may_ready may_init may_make (job_of r) out) where
-  its_p : (p : Producer (Parcel L) Global AnyItems) × (slice_get (rings_to a) w ≡ Some p)
-  its_p = there (rings_to a) w (let m = crew.as_many.0 in let i = within rs w (Some r) at_r in omega (arith, m, i))
-
-  its_n : (n : Consumer (Note L) Global AnyItems) × (slice_get (rings_back a) w ≡ Some n)
-  its_n = there (rings_back a) w (let m = crew.as_many.1 in let i = within rs w (Some r) at_r in omega (arith, m, i))
-
-  it_runs : Runs may_serve may_leave may_ready may_init may_make identity factory listeners (length rs) w (core_of a) (line_of its_p.0 its_n.0 r)
-  it_runs = crew.each w its_p.0 its_n.0 (Some r) its_p.1 its_n.1 at_r
-
-  pub to_first : (ps : List (Producer (Parcel L) Global AnyItems)) → ps ≡ rings_to a → IfSome (slice_get ps w) (λ p. IsPair p out.parcels)
-  to_first ps is = subst (λ o. IfSome o (λ x. IsPair x out.parcels)) (sym (ap (λ qs. slice_get qs w) is ∙ its_p.1)) (
-    promised.accounts.same_inward.0.0 ∙ it_runs.runs.to_it.0,
-    promised.accounts.same_inward.0.1 ∙ it_runs.runs.to_it.1,
-    promised.accounts.same_inward.0.2 ∙ it_runs.runs.to_it.2,
-    promised.accounts.same_inward.0.3 ∙ it_runs.runs.to_it.3,
-  )
-
-  pub from_first : (ns : List (Consumer (Note L) Global AnyItems)) → ns ≡ rings_back a → IfSome (slice_get ns w) (λ c. IsPair out.notes c)
-  from_first ns is = subst (λ o. IfSome o (λ x. IsPair out.notes x)) (sym (ap (λ qs. slice_get qs w) is ∙ its_n.1)) (
-    it_runs.runs.from_it.0 ∙ sym promised.accounts.same_outward.0.0,
-    it_runs.runs.from_it.1 ∙ sym promised.accounts.same_outward.0.1,
-    it_runs.runs.from_it.2 ∙ sym promised.accounts.same_outward.0.2,
-    it_runs.runs.from_it.3 ∙ sym promised.accounts.same_outward.0.3,
-  )
 
 -- the worker left the order, and its rings were looked at
 pub keeps_left : {L : Type 0} (w : ℕ) (a a1 b : Acceptor L) → rings_to a1 ≡ rings_to a → rings_back a1 ≡ rings_back a → ((v : ℕ) → in_order (core_of a).order v ≡ false → in_order (core_of a1).order v ≡ false) → (core_of a1).retired ≡ (core_of a).retired
@@ -388,19 +348,15 @@ started_same before now is = omega (arith, is)
 pub at_taken : {X : Type 0} (xs : List X) (w : ℕ) (now : X) → w < length xs → now ≡ slice_index_or xs w now → slice_get xs w ≡ Some now
 at_taken xs w now inside value = slice_get_read xs (length xs) w now refl inside value
 
-pub get_elsewhere : {X : Type 0} (xs : List X) (w v : ℕ) (x : X) → v ≢ w → slice_get (slice_set xs w x) v ≡ slice_get xs v
-get_elsewhere xs w v x other = elim (cases_lt v (length xs)) [
-  | inl inside ↦ slice_get-get_or (slice_set xs w x) v x (subst (λ n. v < n) (sym (length-set xs w x)) inside) ∙ ap (λ y. Some y) (get_or-set_other xs w v x x other) ∙ sym (slice_get-get_or xs v x inside)
-  | inr past ↦ slice_get_past (slice_set xs w x) v (subst (λ n. n ≤ v) (sym (length-set xs w x)) past) ∙ sym (slice_get_past xs v past)
-]
+-- where nothing was put anew, nothing changed
+pub set_as_was : {X : Type 0} (xs : List X) (w : ℕ) (x : X) → slice_get xs w ≡ Some x → slice_set xs w x ≡ xs
+set_as_was [] w x at = refl
+set_as_was (y ∷ xs) zero x at = let is : y ≡ x = cc in ap (λ z. z ∷ xs) (sym is)
+set_as_was (y ∷ xs) (suc w) x at = ap (λ zs. y ∷ zs) (set_as_was xs w x at)
 
--- what is at a place of workers, where none was put there, or one is in order
-pub placed_none : (P : Type 0) {X : Type 0} (xs : List (Option X)) (w : ℕ) (y : Option X) → y ≡ None → w < length xs → IfSome (slice_get (slice_set xs w y) w) (λ now. is_some now ≡ true → P)
-placed_none P xs w y none inside = subst (λ o. IfSome o (λ now. is_some now ≡ true → P)) (sym (get_here xs w y inside)) (λ some. absurd (let is : is_some y ≡ true = some in by_none y none is))
-  where
-    by_none : {Y : Type 0} (o : Option Y) → o ≡ None → is_some o ≡ true → ⊥
-    by_none None none some = cc
-    by_none (Some x) none some = cc
+-- what is at a place of workers, where none is or was put there, or one is in order
+pub placed_nowhere : (P : Type 0) {X : Type 0} (xs : List (Option X)) (w : ℕ) → slice_get xs w ≡ Some None → IfSome (slice_get xs w) (λ now. is_some now ≡ true → P)
+placed_nowhere P xs w at = subst (λ o. IfSome o (λ now. is_some now ≡ true → P)) (sym at) (λ some. absurd (cc))
 
 pub placed_so : {X P : Type 0} (o : Option (Option X)) → P → IfSome o (λ now. is_some now ≡ true → P)
 placed_so None holds = tt
@@ -423,7 +379,7 @@ pub none_runs : {F L E I : Type 0} (may_serve : F → ℕ → L → Ended L → 
     (identity : L → Identity) (factory : F) (listeners : ℕ) (d : Acceptor L) (ss : List (Option (Running (WorkerJob L F) (Handed L F (Departure E I)))))
     → Crew may_serve may_leave may_ready may_init may_make identity factory listeners d ss → all_retired (core_of d) ≡ true → sum_by vacancy ss ≡ length ss
 none_runs {F = F} {L = L} {E = E} {I = I} may_serve may_leave may_ready may_init may_make identity factory listeners d ss crew all = all_vacant ss (λ w r at.
-    let inside = within ss w (Some r) at in
+    let inside = slice_get_within ss w (Some r) at in
     let p = there (rings_to d) w (let m = crew.as_many.0 in omega (arith, m, inside)) in
     let n = there (rings_back d) w (let m = crew.as_many.1 in omega (arith, m, inside)) in
     let runs : Runs may_serve may_leave may_ready may_init may_make identity factory listeners (length ss) w (core_of d) (line_of p.0 n.0 r) = crew.each w p.0 n.0 (Some r) p.1 n.1 at in

@@ -1,9 +1,9 @@
 -- Why places come to have no worker, one after another.
-use Rattle.std.proofs.Common.{◌≡◌, ◌≤◌, ◌<◌, ◌∷◌, [], ℕ, zero, suc, ◌+◌, List, All, Option, None, Some, length, slice_get, sum_by, refl, sym, ◌∙◌, ap, arith, subst, get_or-set_same, length-set}
-use Rattle.std.specs.Prelude.{◌-◌, Err, IfOk, Ok, Result, slice_set}
+use Rattle.std.proofs.Common.{◌≡◌, ◌≤◌, ◌<◌, ◌∷◌, [], ℕ, zero, suc, ◌+◌, List, All, Option, None, Some, length, slice_get, sum_by, refl, sym, ap, arith, subst}
+use Rattle.std.specs.Prelude.{Err, IfOk, Ok, Result, slice_set}
 use Rattle.std.proofs.lemmas.List.Elements.{All-cons, All-head, All-nil, All-tail}
-use Rattle.std.proofs.lemmas.List.Sums.{sum_by-cons}
-use Rattle.std.proofs.lemmas.Option.{slice_get-get_or}
+use Rattle.std.proofs.lemmas.List.Sums.{sum_by-cons, sum_by-set}
+use Rattle.std.proofs.lemmas.Option.{get_or_from_slice_get, slice_get_within}
 use Rattle.std.specs.declared.alloc.Global.{Global}
 use Rattle.rtrb.specs.Ring.{sent}
 use Rattle.rtrb.specs.declared.AnyItems.{AnyItems}
@@ -19,26 +19,16 @@ use Rattle.server_jobs.specs.declared.parcel.Parcel.{Parcel}
 use Rattle.server_jobs.specs.declared.running.Running.{Running}
 use Rattle.server_run.specs.declared.report.Report.{Report}
 use Rattle.server_run.specs.declared.report.End.TheVariants.{NoWorkers}
+use Rattle.server_worker.proofs.Lists.{slice_get-set_same}
 use Rattle.server.specs.Retiring.{AreFirst, AreRetired, MayEndEarly, Retirements, succession, vacancy}
 use Rattle.server.specs.Rows.{by_job, rows_of}
 use Rattle.server.specs.Starting.{HasStarted, IsStarted, RoseBy}
 use Rattle.worker_job.specs.Jobs.{notes_of}
 use Rattle.worker_job.specs.declared.worker_job.WorkerJob.{WorkerJob}
 
--- what was put at a place of a list
-pub get_here : {X : Type 0} (xs : List X) (w : ℕ) (x : X) → w < length xs → slice_get (slice_set xs w x) w ≡ Some x
-get_here xs w x inside = slice_get-get_or (slice_set xs w x) w x (subst (λ n. w < n) (sym (length-set xs w x)) inside) ∙ ap (λ y. Some y) (get_or-set_same xs w x x inside)
-
 -- a sum of which one element was changed
 pub sum_changed : {X : Type 0} (f : X → ℕ) (xs : List X) (w : ℕ) (x y : X) → slice_get xs w ≡ Some x → sum_by f (slice_set xs w y) + f x ≡ sum_by f xs + f y
-sum_changed f [] w x y at = absurd (cc)
-sum_changed f (z ∷ xs) zero x y at =
-    let is : z ≡ x = cc in
-    let same = ap f is in
-    omega (arith, same, sum_by-cons f z xs, sum_by-cons f y xs)
-sum_changed f (z ∷ xs) (suc w) x y at =
-    let rest = sum_changed f xs w x y at in
-    omega (arith, rest, sum_by-cons f z xs, sum_by-cons f z (slice_set xs w y))
+sum_changed f xs w x y at = subst (λ z. sum_by f (slice_set xs w y) + f z ≡ sum_by f xs + f y) (get_or_from_slice_get xs w x y at) (sum_by-set f xs w y y (slice_get_within xs w x at))
 
 module _ {I : Type 0} (may_init : ℕ → I → Type 0) (listeners : ℕ) where
   -- none is vacant at first
@@ -99,7 +89,7 @@ module _ {I : Type 0} (may_init : ℕ → I → Type 0) (listeners : ℕ) where
     pub retired_replaced : (rs : List (Option (Running (WorkerJob L F) O))) (w : ℕ) (r s : Running (WorkerJob L F) O) (mid now : Option (Running (WorkerJob L F) O)) (before counts then_these : ℕ × ℕ) → slice_get rs w ≡ Some (Some r) → w < length rs
         → mid ≡ None → now ≡ Some s → then_these.0 ≡ risen counts.0 → then_these.1 ≡ counts.1 → AreRetired may_init listeners rs before counts → AreRetired may_init listeners (slice_set (slice_set rs w mid) w now) before then_these
     retired_replaced rs w r s mid now before counts then_these at inside none some starts refusals so_far =
-        let at_mid = get_here rs w mid inside in
+        let at_mid = slice_get-set_same rs w mid inside in
         let vacant = sum_changed vacancy rs w (Some r) mid at in
         let filled = sum_changed vacancy (slice_set rs w mid) w mid now at_mid in
         let left = sum_changed succession rs w (Some r) mid at in
@@ -133,17 +123,6 @@ module _ {I : Type 0} (may_init : ℕ → I → Type 0) (listeners : ℕ) where
         let none = ap succession is in
         subst (λ v. Retirements may_init listeners v (sum_by succession (slice_set rs w now)) before then_these) (omega (arith, vacant, one))
         (one_ended (sum_by vacancy rs) (sum_by succession rs) (sum_by succession (slice_set rs w now)) before counts then_these error may (omega (arith, replaced, none, later)) same so_far)
-
-    -- a place that had none has none
-    pub retired_same : (rs : List (Option (Running (WorkerJob L F) O))) (w : ℕ) (now : Option (Running (WorkerJob L F) O)) (before counts : ℕ × ℕ) → slice_get rs w ≡ Some None → now ≡ None
-        → AreRetired may_init listeners rs before counts → AreRetired may_init listeners (slice_set rs w now) before counts
-    retired_same rs w now before counts at is so_far =
-        let vacant = sum_changed vacancy rs w None now at in
-        let replaced = sum_changed succession rs w None now at in
-        let one = ap vacancy is in
-        let none = ap succession is in
-        subst (λ v. Retirements may_init listeners v (sum_by succession (slice_set rs w now)) before counts) (omega (arith, vacant, one))
-        (subst (λ v. Retirements may_init listeners (sum_by vacancy rs) v before counts) (omega (arith, replaced, none)) so_far)
 
     -- the same counts
     pub retired_on : (rs : List (Option (Running (WorkerJob L F) O))) (before counts then_these : ℕ × ℕ) → AreRetired may_init listeners rs before counts → then_these ≡ counts → AreRetired may_init listeners rs before then_these

@@ -1,13 +1,14 @@
 -- Turns of the acceptor, one behind the other.
-use Rattle.std.proofs.Common.{◌≡◌, ◌^◌, ◌<◌, ◌≤◌, ℕ, ◌++◌, Bool, false, [], List, Option, slice_index_or, Some, refl, subst, sym, ◌∙◌}
+use Rattle.std.proofs.Common.{◌≡◌, ◌^◌, ◌<◌, ◌≤◌, ℕ, ◌++◌, Bool, false, [], List, Option, slice_index_or, None, Some, IfSome, true, refl, ap, subst, sym, ◌∙◌}
 use Rattle.service_core.specs.Link.{Identity}
 use Rattle.server_acceptor.proofs.DoesSteps.{acts_none, acts_trans}
 use Rattle.server_acceptor.specs.Accepting.{Acts, Finishes}
-use Rattle.server_acceptor.specs.Acceptors.{out_of, places_of}
+use Rattle.server_acceptor.specs.Acceptors.{all_ready, out_of, places_of}
 use Rattle.server_acceptor.specs.Parting.{LeavesRest}
 use Rattle.server_acceptor.specs.declared.acceptor.Acceptor.{Acceptor}
 use Rattle.server_core.specs.declared.event.Event.{Event}
 use Rattle.server_run.specs.Listener.{Mark}
+use Rattle.server_run.specs.Report.{is_stop}
 use Rattle.server_run.specs.Delivery.{given_at}
 use Rattle.server_run.specs.declared.entry.Entry.{Entry}
 use Rattle.server.specs.Accepting.{Accepts, CanAccept, Ends, ends_alone}
@@ -49,14 +50,24 @@ module _ {Li L D : Type 0} (given : Li → ℕ) (left : Li → Option (List L)) 
   }
 
 -- the acceptor does not say that no worker is left
-pub not_alone : {L : Type 0} (a : Acceptor L) (end : End) → Finishes a end → ends_alone (Some end) ≡ false
+not_alone : {L : Type 0} (a : Acceptor L) (end : End) → Finishes a end → ends_alone (Some end) ≡ false
 not_alone a Drained f = refl
 not_alone a (Stopped graceful) f = refl
 not_alone a NoWorkers f = absurd f
 not_alone a Memory f = refl
 
-pub ends_so : {L : Type 0} (may_fault : Type 0) (a : Acceptor L) (end : End) → Finishes a end → Ends may_fault a end
+ends_so : {L : Type 0} (may_fault : Type 0) (a : Acceptor L) (end : End) → Finishes a end → Ends may_fault a end
 ends_so may_fault a Drained f = f
 ends_so may_fault a (Stopped graceful) f = f
 ends_so may_fault a NoWorkers f = absurd f
 ends_so may_fault a Memory f = f
+
+-- the same of how the run ends where the acceptor finished so
+pub found_alone : {L : Type 0} (a : Acceptor L) (end : End) (o : Option End) (X : Type 0) → Finishes a end → IfSome o (λ found. (found ≡ end) × X) → ends_alone o ≡ false
+found_alone a end None X finishes some = refl
+found_alone a end (Some found) X finishes some = ap (λ e. ends_alone (Some e)) some.0 ∙ not_alone a end finishes
+
+pub found_ends : {L : Type 0} (may_fault : Type 0) (a : Acceptor L) (end : End) (o : Option End) → Finishes a end → IfSome o (λ found. (found ≡ end) × (is_stop end ≡ false → all_ready a ≡ true))
+    → IfSome o (λ e. (is_stop e ≡ false → all_ready a ≡ true) × Ends may_fault a e)
+found_ends may_fault a end None finishes some = tt
+found_ends may_fault a end (Some found) finishes some = subst (λ e. (is_stop e ≡ false → all_ready a ≡ true) × Ends may_fault a e) (sym some.0) (some.1, ends_so may_fault a end finishes)

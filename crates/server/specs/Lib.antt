@@ -8,6 +8,7 @@ pub mod Settings
 pub mod Starting
 pub mod Tales
 pub mod Replacing
+pub mod Parting
 pub mod Retiring
 pub mod Returning
 pub mod Stopping

@@ -58,6 +58,24 @@ where
     }
 }
 
+// How the run ends, where the acceptor finished so. None says that none was: not all services stood, or there was no memory to accept the
+// first connection.
+fn end_of<L: Link>(acceptor: &Acceptor<L>, end: End) -> Option<End>
+    ensures some { IfSome result (λ found. (found ≡ end) × (is_stop end ≡ false → all_ready acceptor.now ≡ true)) }
+    ensures none { result ≡ None → (all_ready acceptor.now ≡ false) ⊎ (serial_of acceptor.now ≡ 0) }
+{
+    if let End::Stopped { .. } = end {
+        return Some(end);
+    }
+    if !acceptor.all_ready() {
+        return None;
+    }
+    if end == End::Memory && acceptor.accepted() == 0 {
+        return None;
+    }
+    Some(end)
+}
+
 // Makes turns until nothing is left to do, and joins each worker that ends by a fault meanwhile. None says that a worker ended before
 // all were ready, or that there was no memory to accept the first connection.
 fn accept_all<Ho, Li, F, Co, Cl, Sp, Do>(
@@ -121,18 +139,7 @@ where
                     return Some(End::NoWorkers);
                 }
             }
-            AcceptTurn::Finished(end) => {
-                if let End::Stopped { .. } = end {
-                    return Some(end);
-                }
-                if !acceptor.all_ready() {
-                    return None;
-                }
-                if end == End::Memory && acceptor.accepted() == 0 {
-                    return None;
-                }
-                return Some(end);
-            }
+            AcceptTurn::Finished(end) => return end_of(acceptor, end),
         }
     }
     unreachable!()

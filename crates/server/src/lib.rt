@@ -7,6 +7,7 @@ mod binding;
 mod builder;
 mod building;
 mod joining;
+mod parting;
 mod prepared;
 mod replacing;
 mod rests;

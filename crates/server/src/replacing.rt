@@ -1,23 +1,28 @@
 //! How a worker that ended by a fault is joined while the server accepts, and replaced or retired.
-ghost use Rattle.std.specs.Prelude.{◌≡◌, ◌⊎◌, ◌≤◌, ◌<◌, ℕ, true, false, None, Some, All, length, slice_get, sum_by, is_some, IfSome};
+ghost use Rattle.std.specs.Prelude.{◌≡◌, ◌⊎◌, ◌≤◌, ◌<◌, ℕ, true, false, None, Some, All, length, slice_get, slice_set, sum_by, is_some, IfSome};
 ghost use Rattle.std.specs.List.{list_any};
 ghost use Rattle.rtrb.specs.Ring.{IsPair, known_items};
+ghost use Rattle.service_core.specs.Counts.{risen};
 ghost use Rattle.server_acceptor.specs.Acceptors.{core_of, out_of, parcels_of, workers_of};
 ghost use Rattle.server_acceptor.specs.Parting.{LeavesRest};
 ghost use Rattle.server_acceptor.specs.Sending.{IsStopped};
 ghost use Rattle.server_core.specs.Core.{in_order};
+ghost use Rattle.server_jobs.specs.Jobs.{job_of};
 ghost use Rattle.server_jobs.specs.Parcels.{is_stop};
 ghost use Rattle.server_jobs.specs.Returning.{entries_of, entry_of_note};
 ghost use Rattle.server_run.specs.Outcome.{is_stopped};
 ghost use Rattle.server_run.specs.Serving.{MayFault};
 ghost use Rattle.server_run.specs.declared.outcome.Outcome.{Outcome as OutcomeOf};
 ghost use Rattle.server_run.specs.declared.outcome.Outcome.TheVariants.{Stopped as StoppedAs};
+ghost use Rattle.server.specs.Parting.{StartsNone};
 ghost use Rattle.server.specs.Replacing.{Crew, Goes, HasFaulted, IsAlone, IsEven, IsLeftHere, IsSuccessor, MayTakeBack, Recalls, Restarts, all_back};
 ghost use Rattle.server.specs.Retiring.{AreRetired, IsUnfaulted, vacancy};
+ghost use Rattle.worker_job.specs.Promise.{CanWork};
 
+use crate::parting::part;
 use crate::taking_back::{take_owed, take_parcels, take_rest};
 use server_acceptor::Acceptor;
-use server_jobs::{Handed, Handover, Running, Spawner, ThreadFactory};
+use server_jobs::{Handed, Running, Spawner, ThreadFactory};
 use server_run::{Done, Host, Listener, Outcome};
 use service_core::{Link, ServiceFactory};
 use std::alloc::Global;
@@ -103,6 +108,50 @@ where
     Some(WorkerJob::new(alloc, parcels, notes, factory, listeners))
 }
 
+// Starts the job that takes a worker's place, if there is one. None says that there is none, or that its start was refused.
+fn start_next<Ho, L, F, Sp>(
+    rt: &Ho,
+    job: Option<WorkerJob<L, F>>,
+    spawner: &mut Sp,
+) -> Option<Running<WorkerJob<L, F>>>
+where
+    Ho: Host + 'static,
+    L: Link + Send + 'static,
+    F: ThreadFactory<L> + 'static,
+    Sp: Spawner,
+    <F::Factory as ServiceFactory<L>>::Error: 'static,
+    <F::Factory as ServiceFactory<L>>::InitError: 'static,
+    requires can { IfSome job CanWork }
+    ensures job { IfSome result (λ next. job ≡ Some (job_of next)) }
+    ensures started { IfSome result (λ next. (Sp.starts spawner.new ≡ risen (Sp.starts spawner.old)) × (Sp.refusals spawner.new ≡ Sp.refusals spawner.old)) }
+    ensures none { result ≡ None → StartsNone job (Sp.starts spawner.old, Sp.refusals spawner.old) (Sp.starts spawner.new, Sp.refusals spawner.new) }
+{
+    let Some(job) = job else {
+        return None;
+    };
+    spawner.start(rt, job).ok()
+}
+
+// Puts a worker in a place, where none runs.
+fn settle<Ho, L, F>(
+    rt: &Ho,
+    running: &mut Vec<Option<Running<WorkerJob<L, F>>>>,
+    w: usize,
+    next: Running<WorkerJob<L, F>>,
+)
+where
+    Ho: Host,
+    L: Link + Send,
+    F: ThreadFactory<L>,
+    requires number { w < length running.old.items }
+    ensures { running.new.items ≡ slice_set running.old.items w (Some next) }
+{
+    // None ran there any more.
+    if let Some(other) = running[w].replace(next) {
+        drop(other.join(rt));
+    }
+}
+
 // Joins a worker that ended by a fault, hands on what it had, and starts another one in its place, or retires it. True says that no worker
 // is left, and no stop came. The services of all of them are those of the factory.
 pub(crate) fn replace_one<Ho, Li, F, Sp, Do>(
@@ -143,24 +192,14 @@ where
     ensures retires { (before : ℕ × ℕ) → (core_of acceptor.new).stopping ≡ None → AreRetired (F.may_init factory.now) listeners running.old.items before (Sp.starts spawner.old, Sp.refusals spawner.old)
         → AreRetired (F.may_init factory.now) listeners running.new.items before (Sp.starts spawner.new, Sp.refusals spawner.new) }
 {
-    let Some(ended) = running[w].take() else {
+    let Some(handed) = part::<Ho, Li, F, Do>(rt, acceptor, w, running) else {
         return false;
     };
-    let mut handed = ended.join(rt).into_handed();
-    acceptor.leave::<Li, Do>(w);
-    acceptor.look_beside::<Li, Do>(w, &mut handed.parcels, &mut handed.notes);
-    let Some(job) = successor::<Li, F, Do>(alloc, acceptor, w, handed, listeners, done) else {
+    let job = successor::<Li, F, Do>(alloc, acceptor, w, handed, listeners, done);
+    let Some(next) = start_next(rt, job, spawner) else {
         return acceptor.retire::<Li, Do>(w, done);
     };
-    match spawner.start(rt, job) {
-        Ok(next) => {
-            acceptor.replace::<Li, Do>(w);
-            // None ran there any more.
-            if let Some(other) = running[w].replace(next) {
-                drop(other.join(rt));
-            }
-            false
-        }
-        Err(_) => acceptor.retire::<Li, Do>(w, done),
-    }
+    acceptor.replace::<Li, Do>(w);
+    settle(rt, running, w, next);
+    false
 }

@@ -1,5 +1,5 @@
 //! How the workers are joined, and what comes back only then is handed on.
-ghost use Rattle.std.specs.Prelude.{◌≡◌, ◌≤◌, ◌+◌, [], All, length, sum_by};
+ghost use Rattle.std.specs.Prelude.{◌≡◌, ◌≤◌, ◌+◌, All, length, sum_by};
 ghost use Rattle.server_jobs.specs.Joins.{IsLine};
 ghost use Rattle.rtrb.specs.Ring.{received, sent};
 ghost use Rattle.server_jobs.specs.Cards.{of_note, of_parcel};

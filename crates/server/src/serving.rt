@@ -1,5 +1,5 @@
 //! How the server serves once its workers are started.
-ghost use Rattle.std.specs.Prelude.{◌≡◌, ◌≤◌, ◌<◌, ◌+◌, ◌*◌, ℕ, All, [], false, IfOk, IfErr, OnOk, OnErr, IsErrOf, Err, length, vec_len, vec_capacity};
+ghost use Rattle.std.specs.Prelude.{◌≡◌, ◌≤◌, ◌<◌, ◌+◌, ◌*◌, ℕ, All, [], false, IfOk, IfErr, OnErr, IsErrOf, Err, length, vec_len, vec_capacity};
 ghost use Rattle.server_acceptor.specs.Acceptors.{limit_of, notes_of, parcels_of, retry_limit_of, shutdown_timeout_of};
 ghost use Rattle.server_acceptor.specs.Beginning.{IsNew};
 ghost use Rattle.server_run.specs.Creating.{IsStartup};

@@ -1,5 +1,5 @@
 //! What is told of the listeners.
-ghost use Rattle.std.specs.Prelude.{◌≡◌, ◌≤◌, ℕ, [], length, vec_len, vec_capacity, slice_get, IfSome};
+ghost use Rattle.std.specs.Prelude.{◌≡◌, ◌≤◌, ℕ, [], length, vec_capacity, slice_get, IfSome};
 ghost use Rattle.server_acceptor.specs.Acceptors.{core_of, listeners_of, retry_limit_of};
 ghost use Rattle.server_acceptor.specs.States.{IsStateOf};
 

@@ -1,8 +1,7 @@
 //! How what a worker had that was joined is taken back, over its own ring.
-ghost use Rattle.std.specs.Prelude.{◌≡◌, ◌≤◌, ◌++◌, ◌∷◌, [], true, false, Some, List, All, length, is_some};
+ghost use Rattle.std.specs.Prelude.{◌≡◌, ◌≤◌, ◌++◌, ◌∷◌, [], true, false, Some, All, length, is_some};
 ghost use Rattle.std.specs.List.{list_any};
-ghost use Rattle.std.specs.Vec.Iter.{into_iter_items, into_iter_len};
-ghost use Rattle.std.specs.VecDeque.{deque_len};
+ghost use Rattle.std.specs.Vec.Iter.{into_iter_items};
 ghost use Rattle.rtrb.specs.Ring.{SameConsumer, known_items, received};
 ghost use Rattle.server_acceptor.specs.Acceptors.{core_of, out_of};
 ghost use Rattle.server_jobs.specs.Parcels.{is_stop};

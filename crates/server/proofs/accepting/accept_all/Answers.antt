@@ -3,13 +3,12 @@ use Rattle.server.specs.Accepting.{ends_alone}
 use Rattle.server.specs.Replacing.{Crew, HasFaulted, Restarts}
 use Rattle.server.specs.Retiring.{AreRetired}
 use Rattle.server_acceptor.specs.Acceptors.{core_of}
-use Rattle.server_run.specs.Report.{is_stop}
 use Rattle.server_run.specs.Serving.{MayFault}
 use Rattle.server.proofs.CrewSteps.{crew_turn, even_after, faulted_turn, restarts_none, restarts_same, restarts_trans}
 use Rattle.server.proofs.DoneSteps.{closes_leaves, closes_on, stopped_by_one, unstopped_before}
 use Rattle.server.proofs.RetireSteps.{all_retired_now, first_retired, retired_on}
 use Rattle.server.proofs.HearSteps.{hears_leaves, hears_more, hears_none}
-use Rattle.server.proofs.TurnSteps.{accepts_as, accepts_more, accepts_none, can_accept_leaves, can_accept_on, ends_so, not_alone}
+use Rattle.server.proofs.TurnSteps.{accepts_as, accepts_more, accepts_none, can_accept_leaves, can_accept_on, found_alone, found_ends}
 use Rattle.server.proofs.accepting.accept_all.Goals as goal
 
 pub loop-init : goal.loop-init
@@ -64,41 +63,9 @@ pub returns-then-not-all_ready-clause-counts : goal.returns-then-not-all_ready-c
 returns-then-not-all_ready-clause-counts g c =
     restarts_same (MayFault (g.F.ServerServiceFactory.may_ready c.args.factory.now) (g.F.ServerServiceFactory.may_init c.args.factory.now) _) _ _ _ c.loop.invariant.2 (c.wake.ensures)
 
-pub returns-then-not-all_ready-2-clause-accepts : goal.returns-then-not-all_ready-2-clause-accepts
-returns-then-not-all_ready-2-clause-accepts g c =
-    accepts_more g.Li.Listener.given g.Li.Listener.left g.Li.Listener.rest g.Li.Link.Link.identity g.Li.Listener.ended g.Li.Listener.faults g.Do.Done.taken g.Do.Done.count g.Do.Done.served _ _ _ c.args.acceptor.now c.loop.acceptor c.turn-turned.new.self _ _ _ _ _ c.loop.invariant.0 c.turn-turned.ensures.does.acts
-
-pub returns-then-not-all_ready-2-clause-hears : goal.returns-then-not-all_ready-2-clause-hears
-returns-then-not-all_ready-2-clause-hears g c =
-    hears_more g.Co.Commands.given g.Co.Commands.stops g.Co.Commands.idles g.Co.Commands.ended _ _ _ c.loop.acceptor c.turn-turned.new.self _ _ _ c.loop.invariant.3 c.turn-turned.ensures.takes c.turn-turned.ensures.does.acts.logged.core c.turn-turned.ensures.onward c.turn-turned.ensures.timeout c.turn-turned.ensures.stop c.turn-turned.ensures.forces
-
-pub returns-then-not-all_ready-2-clause-crew : goal.returns-then-not-all_ready-2-clause-crew
-returns-then-not-all_ready-2-clause-crew g c =
-    crew_turn g.Li.Listener.given g.Li.Listener.left g.Li.Listener.rest g.Li.Link.Link.identity g.Li.Listener.ended g.Li.Listener.faults g.Do.Done.taken g.Do.Done.count g.Do.Done.served g.F.ServerServiceFactory.may_serve g.F.ServerServiceFactory.may_leave g.F.ServerServiceFactory.may_ready g.F.ServerServiceFactory.may_init g.F.ServerServiceFactory.may_make c.args.factory.now _ _ _ c.loop.acceptor c.turn-turned.new.self _ _ _ _ c.turn-turned.ensures.does (even_after g.Li.Listener.given g.Li.Listener.left g.Li.Listener.rest g.Li.Link.Link.identity g.Li.Listener.ended g.Li.Listener.faults g.Do.Done.taken g.Do.Done.count g.Do.Done.served _ _ c.args.acceptor.now c.turn-turned.new.self _ _ c.requires.carries (accepts_more g.Li.Listener.given g.Li.Listener.left g.Li.Listener.rest g.Li.Link.Link.identity g.Li.Listener.ended g.Li.Listener.faults g.Do.Done.taken g.Do.Done.count g.Do.Done.served _ _ _ c.args.acceptor.now c.loop.acceptor c.turn-turned.new.self _ _ _ _ _ c.loop.invariant.0 c.turn-turned.ensures.does.acts)) c.loop.invariant.4
-
-pub returns-then-not-all_ready-2-clause-counts : goal.returns-then-not-all_ready-2-clause-counts
-returns-then-not-all_ready-2-clause-counts g c =
-    restarts_same (MayFault (g.F.ServerServiceFactory.may_ready c.args.factory.now) (g.F.ServerServiceFactory.may_init c.args.factory.now) _) _ _ _ c.loop.invariant.2 (c.wake.ensures)
-
-pub returns-then-accepted-eq0-clause-accepts : goal.returns-then-accepted-eq0-clause-accepts
-returns-then-accepted-eq0-clause-accepts g c =
-    accepts_more g.Li.Listener.given g.Li.Listener.left g.Li.Listener.rest g.Li.Link.Link.identity g.Li.Listener.ended g.Li.Listener.faults g.Do.Done.taken g.Do.Done.count g.Do.Done.served _ _ _ c.args.acceptor.now c.loop.acceptor c.turn-turned.new.self _ _ _ _ _ c.loop.invariant.0 c.turn-turned.ensures.does.acts
-
-pub returns-then-accepted-eq0-clause-hears : goal.returns-then-accepted-eq0-clause-hears
-returns-then-accepted-eq0-clause-hears g c =
-    hears_more g.Co.Commands.given g.Co.Commands.stops g.Co.Commands.idles g.Co.Commands.ended _ _ _ c.loop.acceptor c.turn-turned.new.self _ _ _ c.loop.invariant.3 c.turn-turned.ensures.takes c.turn-turned.ensures.does.acts.logged.core c.turn-turned.ensures.onward c.turn-turned.ensures.timeout c.turn-turned.ensures.stop c.turn-turned.ensures.forces
-
-pub returns-then-accepted-eq0-clause-crew : goal.returns-then-accepted-eq0-clause-crew
-returns-then-accepted-eq0-clause-crew g c =
-    crew_turn g.Li.Listener.given g.Li.Listener.left g.Li.Listener.rest g.Li.Link.Link.identity g.Li.Listener.ended g.Li.Listener.faults g.Do.Done.taken g.Do.Done.count g.Do.Done.served g.F.ServerServiceFactory.may_serve g.F.ServerServiceFactory.may_leave g.F.ServerServiceFactory.may_ready g.F.ServerServiceFactory.may_init g.F.ServerServiceFactory.may_make c.args.factory.now _ _ _ c.loop.acceptor c.turn-turned.new.self _ _ _ _ c.turn-turned.ensures.does (even_after g.Li.Listener.given g.Li.Listener.left g.Li.Listener.rest g.Li.Link.Link.identity g.Li.Listener.ended g.Li.Listener.faults g.Do.Done.taken g.Do.Done.count g.Do.Done.served _ _ c.args.acceptor.now c.turn-turned.new.self _ _ c.requires.carries (accepts_more g.Li.Listener.given g.Li.Listener.left g.Li.Listener.rest g.Li.Link.Link.identity g.Li.Listener.ended g.Li.Listener.faults g.Do.Done.taken g.Do.Done.count g.Do.Done.served _ _ _ c.args.acceptor.now c.loop.acceptor c.turn-turned.new.self _ _ _ _ _ c.loop.invariant.0 c.turn-turned.ensures.does.acts)) c.loop.invariant.4
-
-pub returns-then-accepted-eq0-clause-counts : goal.returns-then-accepted-eq0-clause-counts
-returns-then-accepted-eq0-clause-counts g c =
-    restarts_same (MayFault (g.F.ServerServiceFactory.may_ready c.args.factory.now) (g.F.ServerServiceFactory.may_init c.args.factory.now) _) _ _ _ c.loop.invariant.2 (c.wake.ensures)
-
 pub returns-in-Finished-clause-accepts : goal.returns-in-Finished-clause-accepts
 returns-in-Finished-clause-accepts g c =
-    accepts_as g.Li.Listener.given g.Li.Listener.left g.Li.Listener.rest g.Li.Link.Link.identity g.Li.Listener.ended g.Li.Listener.faults g.Do.Done.taken g.Do.Done.count g.Do.Done.served _ _ _ _ _ _ _ _ (not_alone c.turn-turned.new.self c.in-Finished.end (c.turn-turned.ensures.finished c.in-Finished.end c.in-Finished.is)) (accepts_more g.Li.Listener.given g.Li.Listener.left g.Li.Listener.rest g.Li.Link.Link.identity g.Li.Listener.ended g.Li.Listener.faults g.Do.Done.taken g.Do.Done.count g.Do.Done.served _ _ _ c.args.acceptor.now c.loop.acceptor c.turn-turned.new.self _ _ _ _ _ c.loop.invariant.0 c.turn-turned.ensures.does.acts)
+    accepts_as g.Li.Listener.given g.Li.Listener.left g.Li.Listener.rest g.Li.Link.Link.identity g.Li.Listener.ended g.Li.Listener.faults g.Do.Done.taken g.Do.Done.count g.Do.Done.served _ _ _ _ _ _ _ _ (found_alone c.turn-turned.new.self c.in-Finished.end c.end_of.result _ (c.turn-turned.ensures.finished c.in-Finished.end c.in-Finished.is) c.end_of.ensures.some) (accepts_more g.Li.Listener.given g.Li.Listener.left g.Li.Listener.rest g.Li.Link.Link.identity g.Li.Listener.ended g.Li.Listener.faults g.Do.Done.taken g.Do.Done.count g.Do.Done.served _ _ _ c.args.acceptor.now c.loop.acceptor c.turn-turned.new.self _ _ _ _ _ c.loop.invariant.0 c.turn-turned.ensures.does.acts)
 
 pub returns-in-Finished-clause-hears : goal.returns-in-Finished-clause-hears
 returns-in-Finished-clause-hears g c =
@@ -110,22 +77,6 @@ returns-in-Finished-clause-crew g c =
 
 pub returns-in-Finished-clause-counts : goal.returns-in-Finished-clause-counts
 returns-in-Finished-clause-counts g c =
-    restarts_same (MayFault (g.F.ServerServiceFactory.may_ready c.args.factory.now) (g.F.ServerServiceFactory.may_init c.args.factory.now) _) _ _ _ c.loop.invariant.2 (c.wake.ensures)
-
-pub returns-in-Stopped-clause-accepts : goal.returns-in-Stopped-clause-accepts
-returns-in-Stopped-clause-accepts g c =
-    accepts_as g.Li.Listener.given g.Li.Listener.left g.Li.Listener.rest g.Li.Link.Link.identity g.Li.Listener.ended g.Li.Listener.faults g.Do.Done.taken g.Do.Done.count g.Do.Done.served _ _ _ _ _ _ _ _ (not_alone c.turn-turned.new.self c.in-Finished.end (c.turn-turned.ensures.finished c.in-Finished.end c.in-Finished.is)) (accepts_more g.Li.Listener.given g.Li.Listener.left g.Li.Listener.rest g.Li.Link.Link.identity g.Li.Listener.ended g.Li.Listener.faults g.Do.Done.taken g.Do.Done.count g.Do.Done.served _ _ _ c.args.acceptor.now c.loop.acceptor c.turn-turned.new.self _ _ _ _ _ c.loop.invariant.0 c.turn-turned.ensures.does.acts)
-
-pub returns-in-Stopped-clause-hears : goal.returns-in-Stopped-clause-hears
-returns-in-Stopped-clause-hears g c =
-    hears_more g.Co.Commands.given g.Co.Commands.stops g.Co.Commands.idles g.Co.Commands.ended _ _ _ c.loop.acceptor c.turn-turned.new.self _ _ _ c.loop.invariant.3 c.turn-turned.ensures.takes c.turn-turned.ensures.does.acts.logged.core c.turn-turned.ensures.onward c.turn-turned.ensures.timeout c.turn-turned.ensures.stop c.turn-turned.ensures.forces
-
-pub returns-in-Stopped-clause-crew : goal.returns-in-Stopped-clause-crew
-returns-in-Stopped-clause-crew g c =
-    crew_turn g.Li.Listener.given g.Li.Listener.left g.Li.Listener.rest g.Li.Link.Link.identity g.Li.Listener.ended g.Li.Listener.faults g.Do.Done.taken g.Do.Done.count g.Do.Done.served g.F.ServerServiceFactory.may_serve g.F.ServerServiceFactory.may_leave g.F.ServerServiceFactory.may_ready g.F.ServerServiceFactory.may_init g.F.ServerServiceFactory.may_make c.args.factory.now _ _ _ c.loop.acceptor c.turn-turned.new.self _ _ _ _ c.turn-turned.ensures.does (even_after g.Li.Listener.given g.Li.Listener.left g.Li.Listener.rest g.Li.Link.Link.identity g.Li.Listener.ended g.Li.Listener.faults g.Do.Done.taken g.Do.Done.count g.Do.Done.served _ _ c.args.acceptor.now c.turn-turned.new.self _ _ c.requires.carries (accepts_more g.Li.Listener.given g.Li.Listener.left g.Li.Listener.rest g.Li.Link.Link.identity g.Li.Listener.ended g.Li.Listener.faults g.Do.Done.taken g.Do.Done.count g.Do.Done.served _ _ _ c.args.acceptor.now c.loop.acceptor c.turn-turned.new.self _ _ _ _ _ c.loop.invariant.0 c.turn-turned.ensures.does.acts)) c.loop.invariant.4
-
-pub returns-in-Stopped-clause-counts : goal.returns-in-Stopped-clause-counts
-returns-in-Stopped-clause-counts g c =
     restarts_same (MayFault (g.F.ServerServiceFactory.may_ready c.args.factory.now) (g.F.ServerServiceFactory.may_init c.args.factory.now) _) _ _ _ c.loop.invariant.2 (c.wake.ensures)
 
 pub replace_one-requires-clause-number : goal.replace_one-requires-clause-number
@@ -172,17 +123,8 @@ loop-preserved g c = (
       (retired_on (g.F.ServerServiceFactory.may_init c.args.factory.now) (vec_len c.args.listeners.now) c.loop.running.items (g.Sp.Spawner.starts c.args.spawner.now, g.Sp.Spawner.refusals c.args.spawner.now) (g.Sp.Spawner.starts c.loop.spawner, g.Sp.Spawner.refusals c.loop.spawner) _ (c.loop.invariant.7 (unstopped_before (core_of c.loop.acceptor).stopping (core_of c.turn-turned.new.self).stopping c.turn-turned.ensures.does.acts.stops (sym c.replace_one.ensures.rest.stopping ∙ calm))) c.wake.ensures))),
 )
 
-pub returns-in-Stopped-clause-finished : goal.returns-in-Stopped-clause-finished
-returns-in-Stopped-clause-finished g c = (
-  λ calm. absurd (true≢false (sym (ap is_stop c.in-Stopped.is) ∙ calm)),
-  ends_so _ c.turn-turned.new.self c.in-Finished.end (c.turn-turned.ensures.finished c.in-Finished.end c.in-Finished.is),
-)
-
 pub returns-in-Finished-clause-finished : goal.returns-in-Finished-clause-finished
-returns-in-Finished-clause-finished g c = (
-  λ calm. search rules,
-  ends_so _ c.turn-turned.new.self c.in-Finished.end (c.turn-turned.ensures.finished c.in-Finished.end c.in-Finished.is),
-)
+returns-in-Finished-clause-finished g c = found_ends _ c.turn-turned.new.self c.in-Finished.end c.end_of.result (c.turn-turned.ensures.finished c.in-Finished.end c.in-Finished.is) c.end_of.ensures.some
 
 pub replace_one-requires-clause-told : goal.replace_one-requires-clause-told
 replace_one-requires-clause-told g c κs within is = stopped_by_one c.turn-turned.new.self c.in-WorkerEnded.w (closes_on g.Li.Listener.given g.Li.Listener.left g.Li.Listener.rest g.Li.Link.Link.identity g.Li.Listener.ended g.Li.Listener.faults g.Do.Done.taken g.Do.Done.count g.Do.Done.served _ _ c.loop.acceptor c.turn-turned.new.self _ _ _ _ c.turn-turned.ensures.does.acts c.loop.invariant.1.as_many (λ lacks. ap (λ v. v.items) (c.turn-turned.ensures.short lacks)) c.turn-turned.ensures.closes c.loop.invariant.6) (c.is_done.ensures.no c.if-is_done.false) is
@@ -197,8 +139,5 @@ returns-then-replace_one-clause-alone g c is =
     (subst (λ k. AreRetired (g.F.ServerServiceFactory.may_init c.args.factory.now) k c.loop.running.items (g.Sp.Spawner.starts c.args.spawner.now, g.Sp.Spawner.refusals c.args.spawner.now) (g.Sp.Spawner.starts c.wake.new.spawner, g.Sp.Spawner.refusals c.wake.new.spawner)) (sym c.len-count.ensures)
     (retired_on (g.F.ServerServiceFactory.may_init c.args.factory.now) (vec_len c.args.listeners.now) c.loop.running.items (g.Sp.Spawner.starts c.args.spawner.now, g.Sp.Spawner.refusals c.args.spawner.now) (g.Sp.Spawner.starts c.loop.spawner, g.Sp.Spawner.refusals c.loop.spawner) _ (c.loop.invariant.7 (unstopped_before (core_of c.loop.acceptor).stopping (core_of c.turn-turned.new.self).stopping c.turn-turned.ensures.does.acts.stops (sym c.replace_one.ensures.rest.stopping ∙ calm))) c.wake.ensures))))
 
-pub returns-in-Stopped-clause-alone : goal.returns-in-Stopped-clause-alone
-returns-in-Stopped-clause-alone g c is = absurd (true≢false (sym (ap ends_alone is) ∙ not_alone c.turn-turned.new.self c.in-Finished.end (c.turn-turned.ensures.finished c.in-Finished.end c.in-Finished.is)))
-
 pub returns-in-Finished-clause-alone : goal.returns-in-Finished-clause-alone
-returns-in-Finished-clause-alone g c is = absurd (true≢false (sym (ap ends_alone is) ∙ not_alone c.turn-turned.new.self c.in-Finished.end (c.turn-turned.ensures.finished c.in-Finished.end c.in-Finished.is)))
+returns-in-Finished-clause-alone g c is = absurd (true≢false (sym (ap ends_alone is) ∙ found_alone c.turn-turned.new.self c.in-Finished.end c.end_of.result _ (c.turn-turned.ensures.finished c.in-Finished.end c.in-Finished.is) c.end_of.ensures.some))
