@@ -73,13 +73,6 @@ const ALONE_WITH_ONE: Case<'static> = Case {
     ..ALONE
 };
 
-// Its service errs before it is called, and its listener ends at once: nothing is left to do when its fault is told.
-const WITHOUT_WORK: Case<'static> = Case {
-    calls: 0,
-    listeners: &[&[]],
-    ..ALONE
-};
-
 // Adds what a listener gives. The names of its links begin with 100.
 fn add(alloc: Global, steps: &mut Vec<ListenerStep>, given: Given) -> Result<(), AllocError> {
     let name = (steps.len() as u64).saturating_add(100);
@@ -148,14 +141,5 @@ fn the_last_worker_faults_and_none_is_left(rt: HostRuntime) -> Result<(), Fail> 
     let two_are_lost = b"0: lost 0 100 lost 101 open\nentries 2, no workers";
     assert!(rt; comes_to(&rt, rt.alloc(), &ALONE, one_is_lost)?);
     assert!(rt; comes_to(&rt, rt.alloc(), &ALONE_WITH_ONE, two_are_lost)?);
-    Ok(())
-}
-
-#[test]
-fn a_run_with_nothing_left_to_do_is_drained_though_its_only_worker_faults(
-    rt: HostRuntime,
-) -> Result<(), Fail> {
-    let none_is_lost = b"0: ended\nentries 0, drained";
-    assert!(rt; comes_to(&rt, rt.alloc(), &WITHOUT_WORK, none_is_lost)?);
     Ok(())
 }
