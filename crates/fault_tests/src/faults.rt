@@ -18,6 +18,8 @@ pub(crate) enum Rule {
         /// How often they are called.
         calls: u64,
     },
+    /// Each at its second readiness. None is made in its place, which is told once the listener has ended.
+    AtEnd,
     /// Each at one readiness in so many, by the draws of a seed.
     Random {
         /// The seed.
@@ -58,6 +60,7 @@ impl Faults {
                 Errs::AfterCalls(calls)
             }
             Rule::First { calls: _ } => Errs::Never,
+            Rule::AtEnd => Errs::AtEnd,
             Rule::Random { seed: _, one_in } => Errs::OneIn(one_in),
         }
     }
@@ -65,7 +68,7 @@ impl Faults {
     // The draws of a token's services, which are others for each job of each worker.
     fn draws(&self, token: usize) -> Draws {
         let seed = match self.rule {
-            Rule::First { calls: _ } => 0,
+            Rule::First { calls: _ } | Rule::AtEnd => 0,
             Rule::Random { seed, one_in: _ } => seed,
         };
         let of_worker = Draws::new(seed, self.number.unwrap_or(u64::MAX));

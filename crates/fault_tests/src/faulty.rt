@@ -19,6 +19,8 @@ pub(crate) struct Faulty {
     pub(crate) draws: Draws,
     /// How many connections it began with.
     pub(crate) calls: Cell<u64>,
+    /// It was ready once.
+    pub(crate) was_ready: Cell<bool>,
     pub(crate) tally: Tally,
     /// A connection ends once services began with so many.
     pub(crate) until: u64,
@@ -31,6 +33,7 @@ impl Faulty {
         match self.errs {
             Errs::Never => false,
             Errs::AfterCalls(count) => calls >= count,
+            Errs::AtEnd => self.was_ready.replace(true),
             Errs::OneIn(count) => calls > 0 && self.draws.is_one_in(count),
         }
     }

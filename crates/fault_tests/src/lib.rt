@@ -6,6 +6,10 @@ mod awaited;
 #[cfg(test)]
 mod draws;
 #[cfg(test)]
+mod ending;
+#[cfg(test)]
+mod ending_tests;
+#[cfg(test)]
 mod errs;
 #[cfg(test)]
 mod faults;

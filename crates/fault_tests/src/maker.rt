@@ -11,6 +11,9 @@ use service_core::{Ended, Link, Ready, ServiceFactory, err, ok};
 use std::alloc::AllocError;
 use std::cell::Cell;
 
+// So often it looks whether the listener has ended, which takes some seconds. Only where that is never asked are they too few.
+const PATIENCE: u32 = 5_000;
+
 /// Makes services that err so, and refuses some in their place.
 #[derive(Drop)]
 pub(crate) struct Maker {
@@ -32,6 +35,7 @@ impl Maker {
         let refuses = match self.errs {
             Errs::Never => false,
             Errs::AfterCalls(_) => true,
+            Errs::AtEnd => self.ends(),
             Errs::OneIn(_) => self.draws.is_one_in(2),
         };
         if refuses {
@@ -40,12 +44,25 @@ impl Maker {
         refuses
     }
 
+    // It refuses one once the listener has ended.
+    fn ends(&self) -> bool {
+        self.tally.ask();
+        for _ in 0..PATIENCE {
+            if self.tally.ends() {
+                return true;
+            }
+        }
+        self.tally.give_up();
+        true
+    }
+
     // The next service.
     fn make(&self) -> Result<Faulty, AllocError> {
         Ok(Faulty {
             errs: self.errs,
             draws: Draws::new(self.draws.next(), 0),
             calls: Cell::new(0),
+            was_ready: Cell::new(false),
             tally: self.tally.share()?,
             until: self.until,
         })

@@ -3,17 +3,17 @@ use crate::faults::Faults;
 use serve_stage::Plan;
 use server_commands::NoCommands;
 use server_jobs::StepClock;
-use server_run::{Host, KeepAll, MemoryLink, MemoryListener, Report, ServeError};
+use server_run::{Host, KeepAll, Listener, MemoryLink, Report, ServeError};
 use service_core::Ended;
 use std::alloc::Global;
 
 /// Serves by a server of the plan. The listeners have to be few.
-pub(crate) fn run<Ho: Host + 'static>(
+pub(crate) fn run<Ho: Host + 'static, Li: Listener<Link = MemoryLink>>(
     rt: &Ho,
     alloc: Global,
     plan: &Plan,
     faults: Faults,
-    listeners: &mut Vec<MemoryListener>,
+    listeners: &mut Vec<Li>,
     done: &mut KeepAll<MemoryLink>,
 ) -> Result<Report, ServeError<()>> {
     if listeners.len() > 64 {

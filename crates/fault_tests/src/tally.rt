@@ -13,6 +13,8 @@ struct Numbers {
     copies: AtomicU64,
     begun: AtomicU64,
     refused: AtomicU64,
+    asked: AtomicBool,
+    ended: AtomicBool,
     given_up: AtomicBool,
 }
 
@@ -29,6 +31,8 @@ impl Tally {
             copies: AtomicU64::new(0),
             begun: AtomicU64::new(0),
             refused: AtomicU64::new(0),
+            asked: AtomicBool::new(false),
+            ended: AtomicBool::new(false),
             given_up: AtomicBool::new(false),
         };
         Ok(Tally {
@@ -67,6 +71,36 @@ impl Tally {
     pub(crate) fn comes_to(&self, begun: u64) -> bool {
         for _ in 0..LOOKS {
             if self.numbers.begun.load(SeqCst) >= begun {
+                return true;
+            }
+        }
+        false
+    }
+
+    /// A service is asked for in the place of one that erred.
+    pub(crate) fn ask(&self) {
+        self.numbers.asked.store(true, SeqCst);
+    }
+
+    /// Whether a service is asked for in the place of one that erred, or soon will be.
+    pub(crate) fn is_asked(&self) -> bool {
+        for _ in 0..LOOKS {
+            if self.numbers.asked.load(SeqCst) {
+                return true;
+            }
+        }
+        false
+    }
+
+    /// The listener has ended.
+    pub(crate) fn end(&self) {
+        self.numbers.ended.store(true, SeqCst);
+    }
+
+    /// Whether the listener has ended, or soon will have.
+    pub(crate) fn ends(&self) -> bool {
+        for _ in 0..LOOKS {
+            if self.numbers.ended.load(SeqCst) {
                 return true;
             }
         }
