@@ -35,7 +35,10 @@ impl Maker {
         let refuses = match self.errs {
             Errs::Never => false,
             Errs::AfterCalls(_) => true,
-            Errs::AtEnd => self.ends(),
+            Errs::AtEnd => {
+                self.await_end();
+                true
+            }
             Errs::OneIn(_) => self.draws.is_one_in(2),
         };
         if refuses {
@@ -44,16 +47,15 @@ impl Maker {
         refuses
     }
 
-    // It refuses one once the listener has ended.
-    fn ends(&self) -> bool {
+    // Waits until the listener has ended.
+    fn await_end(&self) {
         self.tally.ask();
         for _ in 0..PATIENCE {
             if self.tally.ends() {
-                return true;
+                return;
             }
         }
         self.tally.give_up();
-        true
     }
 
     // The next service.

@@ -7,6 +7,16 @@ use std::sync::atomic::{AtomicBool, AtomicU64};
 // So often it looks at a count that is awaited, which takes about a millisecond.
 const LOOKS: u32 = 1_000_000;
 
+// Whether it is set, or soon will be.
+fn comes(flag: &AtomicBool) -> bool {
+    for _ in 0..LOOKS {
+        if flag.load(SeqCst) {
+            return true;
+        }
+    }
+    false
+}
+
 /// The numbers of a tally.
 #[derive(Drop)]
 struct Numbers {
@@ -84,12 +94,7 @@ impl Tally {
 
     /// Whether a service is asked for in the place of one that erred, or soon will be.
     pub(crate) fn is_asked(&self) -> bool {
-        for _ in 0..LOOKS {
-            if self.numbers.asked.load(SeqCst) {
-                return true;
-            }
-        }
-        false
+        comes(&self.numbers.asked)
     }
 
     /// The listener has ended.
@@ -99,12 +104,7 @@ impl Tally {
 
     /// Whether the listener has ended, or soon will have.
     pub(crate) fn ends(&self) -> bool {
-        for _ in 0..LOOKS {
-            if self.numbers.ended.load(SeqCst) {
-                return true;
-            }
-        }
-        false
+        comes(&self.numbers.ended)
     }
 
     /// Something was awaited that did not come.
