@@ -6,4 +6,5 @@ pub mod ResponseLends
 pub mod NamesLeft
 pub mod Kept
 pub mod Texts
+pub mod Marks
 pub mod DefaultLimits

@@ -98,6 +98,7 @@ impl HeaderList {
     }
 
     /// The pair goes last, or nothing changes.
+    #[inline(always)]
     pub fn append(&mut self, name: HeaderName, value: FieldValue) -> Result<(), AllocError>
         ensures ok { OnOk result (self.new ≡ self.old ++ (name, value) ∷ []) }
         ensures err { OnErr result (self.new ≡ self.old) }

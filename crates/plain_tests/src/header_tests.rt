@@ -216,10 +216,16 @@ fn has_values(
     }
 }
 
-fn has_both_values(alloc: Global, list: &HeaderList) -> Result<bool, AllocError> {
-    match name_of(alloc, b"A") {
+// The same of a name that is told by its bytes.
+fn has_named_values(
+    alloc: Global,
+    list: &HeaderList,
+    name: &[u8],
+    wanted: &[u8],
+) -> Result<bool, AllocError> {
+    match name_of(alloc, name) {
         Ok(name) => {
-            let shown = has_values(alloc, list, &name, b"13");
+            let shown = has_values(alloc, list, &name, wanted);
             drop(name);
             shown
         }
@@ -230,7 +236,7 @@ fn has_both_values(alloc: Global, list: &HeaderList) -> Result<bool, AllocError>
 // Whether all values of a name are told, and none of one that is not there.
 fn has_all_values(alloc: Global, list: &HeaderList) -> Result<bool, AllocError> {
     every(&[
-        has_both_values(alloc, list),
+        has_named_values(alloc, list, b"A", b"13"),
         has_values(alloc, list, &HOST, b""),
     ])
 }
@@ -308,6 +314,36 @@ fn three_lose_only_named(alloc: Global) -> Result<bool, AllocError> {
 #[test]
 fn headers_of_a_name_go(rt: HostRuntime) -> Result<(), Fail> {
     holds(&rt, three_lose_only_named(rt.alloc()))
+}
+
+// Two names of three headers, of one length and with one first byte.
+fn alike_headers(alloc: Global) -> Result<HeaderList, AllocError> {
+    list_of(alloc, &[("x-a", "1"), ("x-b", "2"), ("X-A", "3")])
+}
+
+// Whether the two are told apart, and a third is not there.
+fn are_told_apart(alloc: Global, list: &mut HeaderList) -> Result<bool, AllocError> {
+    every(&[
+        has_named_values(alloc, list, b"x-a", b"13"),
+        has_named_values(alloc, list, b"x-b", b"2"),
+        has_named_values(alloc, list, b"x-c", b""),
+        is_made(&names(alloc, list), b"x-ax-b"),
+        Ok(times(list, b"x-b") == 1 && times(list, b"x-c") == 0),
+        loses_named(list, alloc, b"x-c", 0),
+        loses_named(list, alloc, b"x-a", 2),
+    ])
+}
+
+fn alike_are_told_apart(alloc: Global) -> Result<bool, AllocError> {
+    match alike_headers(alloc) {
+        Ok(mut list) => are_told_apart(alloc, &mut list),
+        Err(error) => Err(error),
+    }
+}
+
+#[test]
+fn names_of_one_length_with_one_first_byte_are_told_apart(rt: HostRuntime) -> Result<(), Fail> {
+    holds(&rt, alike_are_told_apart(rt.alloc()))
 }
 
 // Whether a list that was made with room has nothing in it.
