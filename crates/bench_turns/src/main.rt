@@ -17,6 +17,7 @@ mod web;
 use command_line::{print, words_of};
 use failure::Failure;
 use kind::Kind;
+use load::Load;
 use size::Size;
 use std::alloc::AllocGlobal;
 use std::process::ExitCode;
@@ -30,14 +31,30 @@ use web::Web;
 const USAGE: &str =
     "usage: bench_turns wait tiny|http CONNECTIONS TURNS, or bench_turns serve tiny|http CONNECTIONS";
 
+// Carries bytes back. How many bytes were written on connections that came back.
+fn tiny_written<R>(rt: &R, load: Load) -> Result<u64, Failure>
+where
+    R: Wait + RandomSource + AllocGlobal,
+{
+    carried(rt, Tiny, load)
+}
+
+// The same of connections of HTTP.
+fn http_written<R>(rt: &R, load: Load) -> Result<u64, Failure>
+where
+    R: Wait + RandomSource + AllocGlobal,
+{
+    carried(rt, Web, load)
+}
+
 // Does what is measured. How many bytes were written on connections that came back.
 fn written<R>(rt: &R, size: Size) -> Result<u64, Failure>
 where
     R: Wait + RandomSource + AllocGlobal,
 {
     match size.kind {
-        Kind::Tiny => carried(rt, Tiny, size.load),
-        Kind::Http => carried(rt, Web, size.load),
+        Kind::Tiny => tiny_written(rt, size.load),
+        Kind::Http => http_written(rt, size.load),
     }
 }
 
