@@ -316,21 +316,21 @@ fn headers_of_a_name_go(rt: HostRuntime) -> Result<(), Fail> {
     holds(&rt, three_lose_only_named(rt.alloc()))
 }
 
-// Two names of three headers, of one length and with one first byte.
+// Two names of three headers that `HeaderList::names` marks alike: 31 times 97 and 110 more is 31 times 99 and 48 more.
 fn alike_headers(alloc: Global) -> Result<HeaderList, AllocError> {
-    list_of(alloc, &[("x-a", "1"), ("x-b", "2"), ("X-A", "3")])
+    list_of(alloc, &[("an", "1"), ("c0", "2"), ("AN", "3")])
 }
 
 // Whether the two are told apart, and a third is not there.
 fn are_told_apart(alloc: Global, list: &mut HeaderList) -> Result<bool, AllocError> {
     every(&[
-        has_named_values(alloc, list, b"x-a", b"13"),
-        has_named_values(alloc, list, b"x-b", b"2"),
-        has_named_values(alloc, list, b"x-c", b""),
-        is_made(&names(alloc, list), b"x-ax-b"),
-        Ok(times(list, b"x-b") == 1 && times(list, b"x-c") == 0),
-        loses_named(list, alloc, b"x-c", 0),
-        loses_named(list, alloc, b"x-a", 2),
+        has_named_values(alloc, list, b"an", b"13"),
+        has_named_values(alloc, list, b"c0", b"2"),
+        has_named_values(alloc, list, b"a0", b""),
+        is_made(&names(alloc, list), b"anc0"),
+        Ok(times(list, b"c0") == 1 && times(list, b"a0") == 0),
+        loses_named(list, alloc, b"a0", 0),
+        loses_named(list, alloc, b"an", 2),
     ])
 }
 
@@ -342,7 +342,7 @@ fn alike_are_told_apart(alloc: Global) -> Result<bool, AllocError> {
 }
 
 #[test]
-fn names_of_one_length_with_one_first_byte_are_told_apart(rt: HostRuntime) -> Result<(), Fail> {
+fn names_that_share_a_mark_are_told_apart(rt: HostRuntime) -> Result<(), Fail> {
     holds(&rt, alike_are_told_apart(rt.alloc()))
 }
 
