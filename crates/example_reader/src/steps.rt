@@ -1,7 +1,7 @@
 //! The steps of bytes, in lines.
 use crate::shown::{push_bytes, push_line};
 use crate::size::Size;
-use http1_head::{closes, expects, upgrades};
+use http1_head::ReadHead;
 use http1_plain::{HeaderList, HttpVersion, RequestHead};
 use http1_reader::{Reader, Step};
 use std::alloc::{AllocError, Global};
@@ -23,14 +23,14 @@ fn push_headers(text: &mut String, headers: &HeaderList) -> Result<(), AllocErro
 }
 
 // What the head asks of its connection.
-fn push_asks(text: &mut String, head: &RequestHead) -> Result<(), AllocError> {
-    if closes(true, head) {
+fn push_asks(text: &mut String, head: &ReadHead) -> Result<(), AllocError> {
+    if head.closes(true) {
         text.push_str("  (closes)\n")?;
     }
-    if expects(head) {
+    if head.expects() {
         text.push_str("  (expects)\n")?;
     }
-    if upgrades(head) {
+    if head.upgrades() {
         text.push_str("  (upgrades)\n")?;
     }
     Ok(())
@@ -42,8 +42,7 @@ fn push_head(text: &mut String, head: &RequestHead) -> Result<(), AllocError> {
     text.push_str(" ")?;
     push_bytes(text, head.target.as_bytes())?;
     text.push_str(version_text(head.version))?;
-    push_headers(text, &head.headers)?;
-    push_asks(text, head)
+    push_headers(text, &head.headers)
 }
 
 fn push_status(text: &mut String, status: u16) -> Result<(), AllocError> {
@@ -70,7 +69,8 @@ fn push_step(text: &mut String, step: &Step) -> Result<Going, AllocError> {
     match step {
         Step::NeedMore => Ok(Going::Waits),
         Step::Head(head) => {
-            push_head(text, head)?;
+            push_head(text, head.head())?;
+            push_asks(text, head)?;
             Ok(Going::On)
         }
         Step::Body(body) => {

@@ -4,13 +4,13 @@ ghost use Rattle.http1_grammar.specs.Tokens.{upgrades};
 ghost use Rattle.http1_grammar.specs.Wire.{refusal};
 ghost use Rattle.http1_plain.specs.Views.{view};
 ghost use Rattle.http1_dispatcher.specs.Progress.{IsPlaced};
-ghost use Rattle.http1_dispatcher.specs.Steps.{Begins, BeginsBody, BeginsHead, IsAwaiting, IsCallOf, IsCallWith, IsOpen, PutsBy, awaiting};
+ghost use Rattle.http1_dispatcher.specs.Steps.{Begins, BeginsBody, BeginsHead, IsAwaiting, IsCallOf, IsCallWith, IsOpen, PutsBy, awaiting, reply_to};
 ghost use Rattle.http1_dispatcher.specs.declared.exchange.Stage.TheVariants.{Closing, Reading};
 
 use crate::boxed::Boxed;
 use crate::exchange::{Exchange, Reply, Stage};
 use crate::rules::Rules;
-use http1_head::{closes, expects, upgrades};
+use http1_head::ReadHead;
 use http1_plain::{Request, RequestHead};
 use http1_reader::Step;
 use service_core::{Octets, Peer};
@@ -40,12 +40,24 @@ fn refuse(exchange: &mut Exchange, status: u16) -> Result<(), AllocError>
     Ok(())
 }
 
-// Whether another protocol takes the link over behind this head. Where none may, the head is not
-// looked at.
-fn is_upgrade(head: &RequestHead, rules: Rules) -> bool
+// Whether another protocol takes the link over behind this head.
+fn is_upgrade(head: &ReadHead, rules: Rules) -> bool
     ensures { result ≡ (upgrades (view head.now) && rules.has_upgrade) }
 {
-    rules.has_upgrade && upgrades(head)
+    head.upgrades() && rules.has_upgrade
+}
+
+// How the response to a request of this head is written.
+fn reply_to(head: &ReadHead, rules: Rules) -> Result<Reply, AllocError>
+    ensures { IfOk result (λ reply. reply ≡ reply_to rules head.now) }
+{
+    let closing = head.closes(rules.keeps_alive);
+    let head = head.head();
+    Ok(Reply {
+        method: head.method.clone()?,
+        version: head.version,
+        closing,
+    })
 }
 
 // Calls the service with the request.
@@ -97,7 +109,7 @@ fn take_body(
 // Goes on as the head asks: to another protocol, to the expect service, or to its body.
 fn take_head(
     exchange: &mut Exchange,
-    head: RequestHead,
+    head: ReadHead,
     rules: Rules,
     peer: Peer,
     alloc: Global,
@@ -109,16 +121,14 @@ fn take_head(
 {
     if is_upgrade(&head, rules) {
         exchange.stage = Stage::Upgrading {
-            head: Boxed::new(alloc, head)?,
+            head: Boxed::new(alloc, head.into_head())?,
         };
         return Ok(Begun::On);
     }
-    let reply = Reply {
-        method: head.method.clone()?,
-        version: head.version,
-        closing: closes(rules.keeps_alive, &head),
-    };
-    if !expects(&head) {
+    let reply = reply_to(&head, rules)?;
+    let expects = head.expects();
+    let head = head.into_head();
+    if !expects {
         return take_body(exchange, head, peer, reply, rules, alloc);
     }
     let request = Request {

@@ -4,4 +4,5 @@ pub mod HeaderSteps
 pub mod HeadSteps
 pub mod FramingSteps
 pub mod NextSteps
-pub mod TokenSteps
+pub mod FieldSteps
+pub mod OptionSteps

@@ -1,3 +1,5 @@
+pub mod Asking
 pub mod Framings
 pub mod Passing
+pub mod Sharing
 pub mod Steps

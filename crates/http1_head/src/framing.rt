@@ -3,10 +3,12 @@ ghost use Rattle.std.specs.Prelude.{◌≡◌, ◌<◌, ◌^◌, ◌∷◌, ℕ,
 ghost use Rattle.std.specs.List.{list_all};
 ghost use Rattle.std.specs.Char.{is_ascii_digit};
 ghost use Rattle.std.specs.Str.Parse.{digits_value};
-ghost use Rattle.http1_grammar.specs.Framing.{framing, is_number, number_framing, coding_framing};
+ghost use Rattle.http1_grammar.specs.Framing.{framing, framing_by, is_number, number_framing, coding_framing};
+ghost use Rattle.http1_plain.specs.Singles.{IsSingle};
 ghost use Rattle.http1_plain.specs.Views.{view, minor_version};
 ghost use Rattle.http1_head.specs.Framings.{capped};
 
+use crate::fields::Fields;
 use http1_plain::{HttpVersion, RequestHead, Single};
 
 /// The framing of a body of at most so many bytes (RFC 9112, section 6).
@@ -70,17 +72,29 @@ fn coding_framing(version: HttpVersion, coding: &[u8]) -> Framing
     }
 }
 
+// The framing by the values of both fields, of a body of which at most so many bytes are read.
+pub(crate) fn framing_by(
+    version: HttpVersion,
+    coding: Single<'_>,
+    length: Single<'_>,
+    most: usize,
+) -> Framing
+    requires { most < 2 ^ 32 }
+    ensures { (codings lengths : List (List ℕ)) → IsSingle codings coding.entry → IsSingle lengths length.entry
+        → result ≡ capped most (framing_by (minor_version version) codings lengths) }
+{
+    match (coding, length) {
+        (Single::Missing, Single::Missing) => Framing::Empty,
+        (Single::Missing, Single::One(value)) => length_framing(value.as_bytes(), most),
+        (Single::One(value), Single::Missing) => coding_framing(version, value.as_bytes()),
+        _ => Framing::Faulty,
+    }
+}
+
 /// The framing of the request's body, of which at most so many bytes are read.
 pub fn framing_of(head: &RequestHead, most: usize) -> Framing
     requires { most < 2 ^ 32 }
     ensures { result ≡ capped most (framing (view head.now)) }
 {
-    let coding = head.headers.single(b"transfer-encoding");
-    let length = head.headers.single(b"content-length");
-    match (coding, length) {
-        (Single::Missing, Single::Missing) => Framing::Empty,
-        (Single::Missing, Single::One(value)) => length_framing(value.as_bytes(), most),
-        (Single::One(value), Single::Missing) => coding_framing(head.version, value.as_bytes()),
-        _ => Framing::Faulty,
-    }
+    Fields::of(&head.headers).framing(head.version, most)
 }

@@ -1,5 +1,6 @@
 //! The head of a request, read from its text.
 ghost use Rattle.std.specs.Prelude.{◌≡◌, ◌≤◌, ◌+◌, length, count_by, take, map, All, IfOk, IfSome, option_map};
+ghost use Rattle.std.specs.List.{slice_range};
 ghost use Rattle.http_header.specs.FieldName.{IsFieldName};
 ghost use Rattle.http_header.specs.Token.{IsToken, lowercase};
 ghost use Rattle.httparse.specs.Grammar.{RequestHead as Tree};
@@ -9,6 +10,7 @@ ghost use Rattle.http1_grammar.specs.Head.{head_of};
 ghost use Rattle.http1_grammar.specs.RequestText.{request_head};
 ghost use Rattle.http1_plain.specs.Fields.{IsPair, IsValue, lowered};
 ghost use Rattle.http1_plain.specs.Views.{minor_version, view};
+ghost use Rattle.http1_head.specs.Sharing.{doubled};
 
 use bytes::Bytes;
 use http::method::{Method, MethodError};
@@ -19,112 +21,115 @@ use httparse::spans::{EMPTY_HEADER_SPAN, HeaderSpan, RequestSpans, Span, parse_r
 use service_core::Octets;
 use std::alloc::{AllocError, Global};
 
-// The text in lower case, which names share.
-fn lowered_text(alloc: Global, text: &[u8]) -> Result<Bytes, AllocError>
-    ensures { IfOk result (λ lower. lower ≡ lowercase text.now) }
+// The text in lower case, and the text itself behind it.
+fn doubled(alloc: Global, text: &[u8]) -> Result<Bytes, AllocError>
+    requires { length text.now ≤ 65535 }
+    ensures { IfOk result (λ both. both ≡ doubled text.now) }
 {
-    let mut lower = Vec::from_slice(alloc, text)?;
-    lower.as_mut_slice().make_ascii_lowercase();
-    Ok(Bytes::from_vec(lower)?)
+    let mut both = Vec::with_capacity(alloc, text.len() * 2)?;
+    both.extend_from_slice(text)?;
+    both.as_mut_slice().make_ascii_lowercase();
+    both.extend_from_slice(text)?;
+    Ok(Bytes::from_vec(both)?)
 }
 
-// The name that the span covers. It shares the text, which is in lower case.
-fn shared_name(alloc: Global, lower: &Bytes, span: Span) -> Result<HeaderName, AllocError>
-    requires within { IsWithin (length lower.now) span }
-    requires valid { IsFieldName (span_bytes lower.now span) }
-    ensures { IfOk result (λ name. name ≡ lowercase (span_bytes lower.now span)) }
+// A part of the doubled text, which is made for the first that shares it.
+fn part_at(
+    alloc: Global,
+    text: &[u8],
+    both: &mut Option<Bytes>,
+    start: usize,
+    end: usize,
+) -> Result<Bytes, AllocError>
+    requires size { length text.now ≤ 65535 }
+    requires order { start ≤ end }
+    requires within { end ≤ length text.now + length text.now }
+    requires both { IfSome both.old (λ both. both ≡ doubled text.now) }
+    ensures part { IfOk result (λ part. part ≡ slice_range (doubled text.now) start end) }
+    ensures both { IfSome both.new (λ both. both ≡ doubled text.now) }
 {
-    match HeaderName::from_shared(alloc, lower.slice(span.start..span.end)?) {
+    match both {
+        Some(both) => {
+            let part = both.slice(start..end)?;
+            Ok(part)
+        }
+        None => {
+            let made = doubled(alloc, text)?;
+            let part = made.slice(start..end)?;
+            *both = Some(made);
+            Ok(part)
+        }
+    }
+}
+
+// The name that the bytes are.
+fn name_of(alloc: Global, bytes: Bytes) -> Result<HeaderName, AllocError>
+    requires { IsFieldName bytes }
+    ensures { IfOk result (λ name. name ≡ lowercase bytes) }
+{
+    match HeaderName::from_shared(alloc, bytes) {
         Ok(name) => Ok(name),
         Err(HeaderNameError::Invalid) => unreachable!(),
         Err(HeaderNameError::OutOfMemory) => Err(AllocError),
     }
 }
 
-// The name that the span covers. A name that is no standard one shares the text in lower case, which is made for the
-// first of these.
+// The name that the span covers. One that is no standard name shares the text in lower case.
 #[tactic(auto, using(crate::proofs::HeaderSteps::shared_valid, crate::proofs::HeaderSteps::shared_is))]
 fn name_at(
     alloc: Global,
     text: &[u8],
-    lower: &mut Option<Bytes>,
+    both: &mut Option<Bytes>,
     span: Span,
 ) -> Result<HeaderName, AllocError>
+    requires size { length text.now ≤ 65535 }
     requires within { IsWithin (length text.now) span }
     requires valid { IsFieldName (span_bytes text.now span) }
-    requires lower { IfSome lower.old (λ lower. lower ≡ lowercase text.now) }
+    requires both { IfSome both.old (λ both. both ≡ doubled text.now) }
     ensures name { IfOk result (λ name. name ≡ lowercase (span_bytes text.now span)) }
-    ensures lower { IfSome lower.new (λ lower. lower ≡ lowercase text.now) }
+    ensures both { IfSome both.new (λ both. both ≡ doubled text.now) }
 {
     if let Some(name) = HeaderName::standard(span.of(text)) {
         return Ok(name);
     }
-    match lower {
-        Some(lower) => {
-            let name = shared_name(alloc, lower, span)?;
-            Ok(name)
-        }
-        None => {
-            let made = lowered_text(alloc, text)?;
-            let name = shared_name(alloc, &made, span)?;
-            *lower = Some(made);
-            Ok(name)
-        }
-    }
+    let part = part_at(alloc, text, both, span.start, span.end)?;
+    name_of(alloc, part)
 }
 
-// The value that the span covers. It shares the text.
-fn shared_value(alloc: Global, text: &Bytes, span: Span) -> Result<FieldValue, AllocError>
-    requires within { IsWithin (length text.now) span }
-    requires valid { IsValue (span_bytes text.now span) }
-    ensures { IfOk result (λ value. value ≡ span_bytes text.now span) }
-{
-    let bytes = text.slice(span.start..span.end)?;
-    Ok(FieldValue::from_shared(alloc, bytes))
-}
-
-// The value that the span covers. One of many bytes shares a copy of the text, which is made for the first of these.
+// The value that the span covers. One of many bytes shares the text.
 fn value_at(
     alloc: Global,
     text: &[u8],
-    copy: &mut Option<Bytes>,
+    both: &mut Option<Bytes>,
     span: Span,
 ) -> Result<FieldValue, AllocError>
+    requires size { length text.now ≤ 65535 }
     requires within { IsWithin (length text.now) span }
     requires valid { IsValue (span_bytes text.now span) }
-    requires copy { IfSome copy.old (λ copy. copy ≡ text.now) }
+    requires both { IfSome both.old (λ both. both ≡ doubled text.now) }
     ensures value { IfOk result (λ value. value ≡ span_bytes text.now span) }
-    ensures copy { IfSome copy.new (λ copy. copy ≡ text.now) }
+    ensures both { IfSome both.new (λ both. both ≡ doubled text.now) }
 {
     if let Some(value) = FieldValue::of_few_bytes(alloc, span.of(text)) {
         return Ok(value);
     }
-    match copy {
-        Some(copy) => {
-            let value = shared_value(alloc, copy, span)?;
-            Ok(value)
-        }
-        None => {
-            let made = Bytes::copy_from_slice(alloc, text)?;
-            let value = shared_value(alloc, &made, span)?;
-            *copy = Some(made);
-            Ok(value)
-        }
-    }
+    let before = text.len();
+    let part = part_at(alloc, text, both, before + span.start, before + span.end)?;
+    Ok(FieldValue::from_shared(alloc, part))
 }
 
 // The headers that the spans cover.
 fn headers_at(alloc: Global, text: &[u8], spans: &[HeaderSpan]) -> Result<HeaderList, AllocError>
+    requires size { length text.now ≤ 65535 }
     requires within { All (IsHeaderWithin (length text.now)) spans.now }
     requires valid { All IsPair (map (header_bytes text.now) spans.now) }
     ensures { IfOk result (λ list. list ≡ map lowered (map (header_bytes text.now) spans.now)) }
 {
     let mut list = HeaderList::with_capacity(alloc, spans.len())?;
-    let mut copy = None;
-    let mut lower = None;
+    let mut both = None;
     for span in spans {
-        let name = name_at(alloc, text, &mut lower, span.name)?;
-        let value = value_at(alloc, text, &mut copy, span.value)?;
+        let name = name_at(alloc, text, &mut both, span.name)?;
+        let value = value_at(alloc, text, &mut both, span.value)?;
         list.append(name, value)?;
     }
     Ok(list)

@@ -5,10 +5,12 @@ ghost use Rattle.http1_grammar.specs.Next.{judge, next_head, next};
 ghost use Rattle.http1_head.specs.Passing.{HasSeen, LooksAtAll};
 ghost use Rattle.http1_head.specs.Steps.{step_of, IsWithin, FramesBody};
 
-use crate::framing::{Framing, framing_of};
+use crate::fields::Fields;
+use crate::framing::Framing;
 use crate::head::read_head;
+use crate::read_head::ReadHead;
 use crate::scan::{empty_lines, head_size_from};
-use http1_plain::{Limits, RequestHead};
+use http1_plain::Limits;
 use std::alloc::{AllocError, Global};
 
 /// How the body behind a head is framed (RFC 9112, section 6).
@@ -27,8 +29,8 @@ pub enum NextHead {
     Nothing,
     /// The connection is answered this status, and closed.
     Refused(u16),
-    /// A head, how its body is framed, and how many bytes it took.
-    Found(RequestHead, BodyFraming, usize),
+    /// A head with what it asks, how its body is framed, and how many bytes it took.
+    Found(ReadHead, BodyFraming, usize),
 }
 
 const MOST_LINES: usize = 98;
@@ -55,7 +57,11 @@ fn judge(
     let Some(head) = read_head(alloc, text, lines)? else {
         return Ok(NextHead::Refused(400));
     };
-    match framing_of(&head, limits.body()) {
+    let fields = Fields::of(&head.headers);
+    let framing = fields.framing(head.version, limits.body());
+    let asks = fields.asks(head.version);
+    let head = ReadHead::new(head, asks);
+    match framing {
         Framing::Empty => Ok(NextHead::Found(head, BodyFraming::Sized(0), used)),
         Framing::Sized(size) => Ok(NextHead::Found(head, BodyFraming::Sized(size), used)),
         Framing::Chunked => Ok(NextHead::Found(head, BodyFraming::Chunked, used)),

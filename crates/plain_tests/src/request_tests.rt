@@ -229,7 +229,7 @@ fn are_limits(limits: Limits, head: usize, body: usize) -> bool {
 
 fn is_framed_head(next: &NextHead, wanted: Framing) -> bool {
     match next {
-        NextHead::Found(head, _, _) => framing_of(head, 9) == wanted,
+        NextHead::Found(head, _, _) => framing_of(head.head(), 9) == wanted,
         _ => false,
     }
 }

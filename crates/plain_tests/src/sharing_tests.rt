@@ -128,7 +128,7 @@ fn detached_values_are_equal(rt: HostRuntime) -> Result<(), Fail> {
 // The headers of the request at the front, told as lines.
 fn header_lines(alloc: Global, next: &NextHead) -> Result<Octets, AllocError> {
     match next {
-        NextHead::Found(head, _, _) => lines(alloc, &head.headers),
+        NextHead::Found(head, _, _) => lines(alloc, &head.head().headers),
         _ => Ok(empty(alloc)),
     }
 }
@@ -143,9 +143,9 @@ fn has_lines(alloc: Global, text: &[u8], wanted: &[u8]) -> Result<bool, AllocErr
 
 fn are_those_of_its_text(alloc: Global) -> Result<bool, AllocError> {
     let text =
-        b"GET / HTTP/1.1\r\nHOST: a\r\nX-One: a value of more than 24 bytes\r\nx-TWO: another one of more bytes\r\nx-one:\r\n\r\n".as_slice();
+        b"GET / HTTP/1.1\r\nHOST: A Host of More than 24 Bytes\r\nX-One: Another VALUE of so many\r\nx-TWO: b\r\nx-one:\r\n\r\n".as_slice();
     let wanted =
-        b"host=a;x-one=a value of more than 24 bytes;x-two=another one of more bytes;x-one=;";
+        b"host=A Host of More than 24 Bytes;x-one=Another VALUE of so many;x-two=b;x-one=;";
     has_lines(alloc, text, wanted)
 }
 

@@ -1,22 +1,22 @@
 //! What a head asks of its connection.
 use crate::shown::{hold, holds};
 use http1_head::{
-    BodyFraming, NextHead, closes, empty_line, empty_lines, expects, head_at_front, head_size_from,
-    next_head, upgrades,
+    BodyFraming, NextHead, ReadHead, empty_line, empty_lines, head_at_front, head_size_from,
+    next_head,
 };
-use http1_plain::{Limits, Request, RequestHead};
+use http1_plain::{Limits, Request};
 use service_core::{Octets, Peer};
 use std::alloc::{AllocError, Global};
 use std::test::Fail;
 
 // What a head asks: whether its connection closes, and whether where it may not be kept alive; whether it waits for
 // `100 Continue`; whether it asks for another protocol.
-fn asks_of(head: &RequestHead) -> (bool, bool, bool, bool) {
+fn asks_of(head: &ReadHead) -> (bool, bool, bool, bool) {
     (
-        closes(true, head),
-        closes(false, head),
-        expects(head),
-        upgrades(head),
+        head.closes(true),
+        head.closes(false),
+        head.expects(),
+        head.upgrades(),
     )
 }
 
@@ -107,6 +107,46 @@ fn a_head_says_whether_it_upgrades(rt: HostRuntime) -> Result<(), Fail> {
     holds(&rt, all_ask(rt.alloc(), &texts, (false, true, false, true)))
 }
 
+// Whether a head that is made of the one at the front asks the same.
+fn made_asks(next: NextHead, wanted: (bool, bool, bool, bool)) -> bool {
+    match next {
+        NextHead::Found(head, _, _) => {
+            let made = ReadHead::of(head.into_head());
+            let shown = asks_of(&made) == wanted;
+            drop(made);
+            shown
+        }
+        NextHead::Nothing | NextHead::Refused(_) => false,
+    }
+}
+
+fn made_head_asks(
+    alloc: Global,
+    text: &str,
+    wanted: (bool, bool, bool, bool),
+) -> Result<bool, AllocError> {
+    match next_head(alloc, Limits::default(), text.as_bytes()) {
+        Ok(next) => Ok(made_asks(next, wanted)),
+        Err(error) => Err(error),
+    }
+}
+
+#[test]
+fn options_of_several_fields_are_joined(rt: HostRuntime) -> Result<(), Fail> {
+    let text =
+        "POST / HTTP/1.1\r\nConnection: x, UPGRADE\r\nContent-Length: 0\r\nExpect: 100-continue\r\nConnection: close,y\r\n\r\n";
+    holds(&rt, head_asks(rt.alloc(), text, (true, true, true, true)))
+}
+
+#[test]
+fn a_head_that_is_made_asks_the_same(rt: HostRuntime) -> Result<(), Fail> {
+    let text = "POST / HTTP/1.0\r\nConnection: keep-alive, upgrade\r\nExpect: 100-continue\r\n\r\n";
+    holds(
+        &rt,
+        made_head_asks(rt.alloc(), text, (false, true, false, true)),
+    )
+}
+
 fn framed_by(next: &NextHead, wanted: BodyFraming) -> bool {
     match next {
         NextHead::Found(_, body, _) => *body == wanted,
@@ -176,7 +216,7 @@ fn copied(request: &Request) -> Result<bool, AllocError> {
 fn is_copied(alloc: Global, next: NextHead) -> Result<bool, AllocError> {
     match next {
         NextHead::Found(head, _, _) => copied(&Request {
-            head,
+            head: head.into_head(),
             body: Octets::of(alloc, b"abc")?,
             peer: Peer::Local,
         }),

@@ -35,7 +35,7 @@ fn add_step(log: &mut Octets, step: &Step) -> Result<bool, AllocError> {
     match step {
         Step::NeedMore => Ok(false),
         Step::Head(head) => {
-            add_head(log, head)?;
+            add_head(log, head.head())?;
             Ok(true)
         }
         Step::Body(body) => {
