@@ -4,10 +4,17 @@
 # then the sums, the longest chain (how long the gate takes on as many processors as it can use) and the crates above
 # their budget: a proof 3 minutes, tests 1.5, edits with the check that they begin with 5. It ends with the gate's status.
 # Words behind it go to `rt ci`, as names of crates: `bench/gate.sh server_core`. Nothing else should run meanwhile.
+# With `--log FILE` it runs `rt ci`, which does again only what was not passed on this machine, adds what that took to FILE,
+# and prints the table of all runs that FILE has: so a gate from nothing can be measured in several runs.
 set -eu
 top=$(cd "$(dirname "${BASH_SOURCE[0]}")/.." && pwd)
 work=$(mktemp -d)
 trap 'rm -rf "$work"' EXIT
+log="$work/log" anew=--anew
+if [ "${1-}" = --log ]; then
+    log=$(realpath "$2") anew=
+    shift 2
+fi
 cd "$top"
 
 # Stands for the prover: runs it, and notes what the run took.
@@ -16,7 +23,7 @@ cat > "$work/prover" <<'PY'
 import json, os, resource, signal, subprocess, sys
 status = subprocess.call([os.environ["GATE_PROVER"], *sys.argv[1:]])
 used = resource.getrusage(resource.RUSAGE_CHILDREN)
-row = {"in": os.getcwd(), "words": sys.argv[1:], "seconds": used.ru_utime + used.ru_stime, "kb": used.ru_maxrss}
+row = {"in": os.getcwd(), "words": sys.argv[1:], "seconds": used.ru_utime + used.ru_stime, "kb": used.ru_maxrss, "status": status}
 with open(os.environ["GATE_LOG"], "a") as log:
     log.write(json.dumps(row) + "\n")
 if status < 0:
@@ -28,14 +35,14 @@ chmod +x "$work/prover"
 cat > "$work/gate.py" <<'PY'
 import collections, importlib.machinery, importlib.util, json, os, shutil, sys, time
 sys.dont_write_bytecode = True
-work, names = sys.argv[1], sys.argv[2:]
+work, log, names = sys.argv[1], sys.argv[2], sys.argv[3:]
 loader = importlib.machinery.SourceFileLoader("rt_command", os.path.realpath(shutil.which("rt")))
 rt = importlib.util.module_from_spec(importlib.util.spec_from_loader("rt_command", loader))
 loader.exec_module(rt)
-os.environ.update(GATE_PROVER=rt.rtlib.RATTLE, GATE_LOG=f"{work}/log")
+os.environ.update(GATE_PROVER=rt.rtlib.RATTLE, GATE_LOG=log)
 rt.rtlib.RATTLE = f"{work}/prover"
 began = time.time()
-status = rt.main(["ci", "--anew", *names])
+status = rt.main(["ci", *names])
 wall = time.time() - began
 
 KINDS = ("proof", "tests", "seed", "edits")
@@ -52,9 +59,10 @@ def kind_of(crate, words, place):
     over = words[words.index("--incremental") + 1] if "--incremental" in words else ""
     return "seed" if over.endswith("/seed") and not spent[crate]["seed"] else "edits"
 
-for row in map(json.loads, open(f"{work}/log") if os.path.exists(f"{work}/log") else ()):
+# (a run that a signal ended is left out: it is done again)
+for row in map(json.loads, open(log) if os.path.exists(log) else ()):
     words = row["words"]
-    if "--crate-name" not in words:
+    if "--crate-name" not in words or row["status"] < 0:
         continue
     crate = words[words.index("--crate-name") + 1]
     kind = kind_of(crate, words, row["in"])
@@ -99,4 +107,4 @@ for crate in [it for it in below if it in spent]:
             print(f"above its budget: {crate}, {what}: {much:.1f} of {BUDGET[what]} minutes")
 sys.exit(status)
 PY
-python3 -I "$work/gate.py" "$work" "$@"
+python3 -I "$work/gate.py" "$work" "$log" $anew "$@"

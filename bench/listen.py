@@ -20,7 +20,7 @@ import sys
 import tempfile
 import time
 
-from clients import connect, ensure, listening, response
+from clients import connect, ensure, response
 
 PROGRAM = sys.argv[1]
 REQUEST = b"GET / HTTP/1.1\r\nHost: a\r\n\r\n"
@@ -64,11 +64,6 @@ CALLS = {
 }
 
 
-def ours(workers, before=()):
-    """Our program with so many workers, by the words that are to stand before it, and its port."""
-    return listening([*before, PROGRAM, "127.0.0.1:0", 1_000_000, workers])
-
-
 def free_port():
     """A port at which nothing listens."""
     with socket.create_server(("127.0.0.1", 0)) as free:
@@ -82,7 +77,29 @@ def await_port(process, port):
         with contextlib.suppress(ConnectionRefusedError):
             return connect(port).close()
         time.sleep(0.05)
-    raise ConnectionError("nginx does not listen")
+    raise ConnectionError("nothing listens")
+
+
+@contextlib.contextmanager
+def serving(command, port):
+    """A program that serves at the port, and the port. It is ended where it has not ended by itself."""
+    with subprocess.Popen(
+        command, stdin=subprocess.DEVNULL, stdout=subprocess.PIPE, stderr=subprocess.PIPE, text=True
+    ) as process:
+        try:
+            await_port(process, port)
+            yield process, port
+        finally:
+            process.terminate()
+            with contextlib.suppress(subprocess.TimeoutExpired):
+                process.wait(timeout=20)
+            process.kill()
+
+
+def ours(workers, before=()):
+    """Our program with so many workers, by the words that are to stand before it, and its port."""
+    port = free_port()
+    return serving([*before, PROGRAM, f"127.0.0.1:{port}", "1000000", str(workers)], port)
 
 
 @contextlib.contextmanager
@@ -92,18 +109,8 @@ def nginx(workers, before=()):
         port = free_port()
         with open(f"{folder}/nginx.conf", "w") as file:
             file.write(CONFIGURATION % ("on" if workers > 1 else "off", workers, port))
-        with subprocess.Popen(
-            [*before, "nginx", "-e", "stderr", "-p", folder, "-c", "nginx.conf"],
-            stdin=subprocess.DEVNULL, stdout=subprocess.PIPE, stderr=subprocess.PIPE, text=True,
-        ) as process:
-            try:
-                await_port(process, port)
-                yield process, port
-            finally:
-                process.terminate()
-                with contextlib.suppress(subprocess.TimeoutExpired):
-                    process.wait(timeout=20)
-                process.kill()
+        with serving([*before, "nginx", "-e", "stderr", "-p", folder, "-c", "nginx.conf"], port) as server:
+            yield server
 
 
 def show(what, figures, form):

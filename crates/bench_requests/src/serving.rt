@@ -5,13 +5,13 @@ use crate::failure::Failure;
 use crate::flight_link::FlightLink;
 use crate::hello::Hello;
 use crate::size::Size;
-use cors_answer::{Cors, CorsInitError};
+use cors_answer::{Cors, CorsFault, CorsInitError};
 use cors_policy::NoRule;
 use futures::executor::block_on_queue;
 use futures::task::{Doorbell, Queue};
 use http_flow::{HttpInitError, Never};
 use http_service::HttpService;
-use http1_plain::Request;
+use http1_plain::{Request, Response};
 use service_core::{ApplyTransform, Ended, How, Octets, Service, ServiceFactory, apply};
 use std::alloc::{AllocError, AllocGlobal, Global};
 use std::random::RandomSource;
@@ -114,15 +114,39 @@ fn policed(alloc: Global) -> Result<ApplyTransform<Cors<NoRule>, Hello, Request>
     apply(alloc, cors, Hello { alloc })
 }
 
-// How many bytes are written in answer to the requests, by the queue's task.
+// How many bytes are written in answer to the requests, by what stands under a policy.
+fn written_under<R: Wait, P>(
+    rt: &R,
+    queue: &Queue,
+    alloc: Global,
+    policed: P,
+    link: FlightLink,
+) -> Result<u64, Failure>
+where
+    P: ServiceFactory<
+        Request,
+        Config = (),
+        Response = Response,
+        Error = CorsFault,
+        InitError = CorsInitError,
+        Service: Drop,
+    >
+        + Drop,
+    requires { P.can_make policed }
+{
+    let connections = HttpService::build(alloc).finish(policed).tcp();
+    written_through(rt, queue, &connections, link)
+}
+
+// The same by the queue's task.
 fn written_within<R: Wait>(
     rt: &R,
     queue: &Queue,
     alloc: Global,
     size: Size,
 ) -> Result<u64, Failure> {
-    let connections = HttpService::build(alloc).finish(policed(alloc)?).tcp();
-    written_through(rt, queue, &connections, link(alloc, size)?)
+    let link = link(alloc, size)?;
+    written_under(rt, queue, alloc, policed(alloc)?, link)
 }
 
 /// How many bytes are written in answer to the requests.

@@ -1,5 +1,5 @@
 //! The connections of a listener, served.
-ghost use Rattle.std.specs.Prelude.{◌≡◌, ◌<◌, ◌^◌, ◌∷◌, [], IfOk, IfErr};
+ghost use Rattle.std.specs.Prelude.{◌≡◌, ◌≤◌, ◌<◌, ◌^◌, ◌∷◌, [], IfOk, IfErr};
 ghost use Rattle.service_core.specs.Counts.{Rose};
 ghost use Rattle.cors_rules.specs.Building.{permissive};
 ghost use Rattle.script_service.specs.Factories.{RefusesSite, replay_builder, replay_site};
@@ -25,12 +25,13 @@ use service_core::Ended;
 use std::alloc::{AllocError, Global};
 use std::marker::PhantomData;
 
-/// Serves the connections of the listener, at most so many, and closes their links.
+/// Serves the connections of the listener, at most so many, on so many workers, and closes their links.
 pub(crate) fn serve_listener<Ho, Li, Cl, Sp>(
     rt: &Ho,
     alloc: Global,
     listener: Li,
     limit: u64,
+    workers: usize,
     clock: &mut Cl,
     spawner: &mut Sp,
 ) -> Result<Heard, ListenError>
@@ -41,13 +42,14 @@ where
     Cl: Clock,
     Sp: Spawner,
     requires few { limit < 2 ^ 48 }
-    ensures started { IfOk result (λ _. RoseBy 2 (Sp.starts spawner.old) (Sp.starts spawner.new)) }
+    requires workers { (1 ≤ workers) × (workers ≤ 512) }
+    ensures started { IfOk result (λ _. RoseBy workers (Sp.starts spawner.old) (Sp.starts spawner.new)) }
     ensures hears { IfOk result (Hears Li.left Li.rest Li.Link.Link limit listener) }
     ensures unserved { IfErr result (IsUnserved (Rose (Sp.refusals spawner.old) (Sp.refusals spawner.new))) }
 {
     // What the services answer; the check of loans takes only types that the function names.
     let _: PhantomData<Ended<Li::Link>> = PhantomData;
-    let Ok(server) = hello_server(alloc) else {
+    let Ok(server) = hello_server(alloc, workers) else {
         return Err(ListenError::Memory);
     };
     let Ok(mut listeners) = one(alloc, Limited::new(listener, limit)) else {
@@ -85,16 +87,17 @@ fn one<T: Drop>(alloc: Global, item: T) -> Result<Vec<T>, AllocError>
     Ok(list)
 }
 
-// The server of `hello` under the permissive policy, with the default settings.
-fn hello_server(alloc: Global) -> Result<Server<ReplayFactory>, AllocError>
+// The server of `hello` under the permissive policy on so many workers, with the default settings else.
+fn hello_server(alloc: Global, workers: usize) -> Result<Server<ReplayFactory>, AllocError>
+    requires { (1 ≤ workers) × (workers ≤ 512) }
     ensures builder { IfOk result (λ server. replay_builder (factory_of server) ≡ permissive) }
     ensures site { IfOk result (λ server. replay_site (factory_of server) ≡ listen_site) }
-    ensures settings { IfOk result (λ server. server_settings server ≡ default_settings) }
+    ensures settings { IfOk result (λ server. server_settings server ≡ record default_settings { workers = workers }) }
 {
     let cors = Cors::permissive(alloc)?;
     let script = Script::new(alloc);
     let factory = ReplayFactory::new(alloc, cors, script.settings)?;
-    Ok(server::new(alloc)?.run(factory))
+    Ok(server::new(alloc)?.workers(workers).run(factory))
 }
 
 // Why the services could not be made: memory ran out, since the policy is not refused.
