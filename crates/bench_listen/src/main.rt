@@ -30,9 +30,9 @@ fn main(rt: HostRuntime) -> ExitCode {
     let Some((addr, limit, workers)) = asked(&words) else {
         return ExitCode::from(print(&rt, USAGE, 2));
     };
-    let alloc = rt.alloc();
-    ExitCode::from(match serve(rt, alloc, addr, limit, workers) {
-        Some(_) => 0,
-        None => 1,
-    })
+    let status = match serve(&rt, rt.alloc(), addr, limit, workers) {
+        Some(served) => println!(rt; "served {served}").map_or(1, |()| 0),
+        None => print(&rt, "could not serve", 1),
+    };
+    ExitCode::from(status)
 }

@@ -11,7 +11,7 @@ use std::sync::Arc;
 
 /// Serves so many connections that come to the address, by so many workers, and tells how many of them were served.
 pub fn serve<Ho: Host + 'static>(
-    rt: Ho,
+    rt: &Ho,
     alloc: Global,
     addr: &str,
     limit: u32,
@@ -19,10 +19,10 @@ pub fn serve<Ho: Host + 'static>(
 ) -> Option<u64>
     requires { (1 ≤ workers) × (workers ≤ 512) }
 {
-    let reactor = Arc::new(alloc, Reactor::new(&rt, alloc).ok()?).ok()?;
+    let reactor = Arc::new(alloc, Reactor::new(rt, alloc).ok()?).ok()?;
     let mut spawner = ThreadSpawner::over(alloc, Arc::try_clone(&reactor).ok()?).ok()?;
     let mut binder = MioBinder::over(Arc::try_clone(&reactor).ok()?);
-    let host = ReactorHost::over(rt, reactor);
+    let host = ReactorHost::over(rt.clone().ok()?, reactor);
     let mut clock = SystemClock::new(&host);
     let heard = listen(
         &host,
