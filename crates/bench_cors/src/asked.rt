@@ -5,10 +5,8 @@ use crate::allowing::{Text, method, origin, two_headers};
 use crate::failure::Failure;
 use crate::kind::Kind;
 use http::method::Method;
-use http_header::{
-    ACCESS_CONTROL_REQUEST_HEADERS, ACCESS_CONTROL_REQUEST_METHOD, HeaderName, ORIGIN,
-};
-use http1_plain::{FieldFault, FieldValue, HeaderList, HttpVersion, Request, RequestHead};
+use http_header::{ACCESS_CONTROL_REQUEST_HEADERS, ACCESS_CONTROL_REQUEST_METHOD, ORIGIN};
+use http1_plain::{FieldFault, FieldValue, HttpVersion, Request, RequestHead, RequestHeaders};
 use service_core::{Octets, Peer};
 use std::alloc::{AllocError, Global};
 
@@ -39,7 +37,7 @@ fn value_of(alloc: Global, text: &Text) -> Result<FieldValue, Failure> {
 }
 
 // A request with no body for `/`.
-fn bare(alloc: Global, method: Method, headers: HeaderList) -> Result<Request, AllocError> {
+fn bare(alloc: Global, method: Method, headers: RequestHeaders) -> Result<Request, AllocError> {
     match Octets::of(alloc, b"/") {
         Ok(target) => Ok(Request {
             head: RequestHead {
@@ -51,18 +49,6 @@ fn bare(alloc: Global, method: Method, headers: HeaderList) -> Result<Request, A
             body: Octets::new(alloc),
             peer: Peer::Local,
         }),
-        Err(error) => Err(error),
-    }
-}
-
-// The list goes on with a copy of the value.
-fn append(
-    headers: &mut HeaderList,
-    name: HeaderName,
-    value: &FieldValue,
-) -> Result<(), AllocError> {
-    match value.copy() {
-        Ok(value) => headers.append(name, value),
         Err(error) => Err(error),
     }
 }
@@ -110,21 +96,21 @@ impl Asked {
         }
     }
 
-    // The list goes on with the origin of a page.
-    fn put_origin(&self, headers: &mut HeaderList) -> Result<(), AllocError> {
-        append(headers, ORIGIN, &self.origin)
+    // The headers go on with the origin of a page.
+    fn put_origin(&self, headers: &mut RequestHeaders) -> Result<(), AllocError> {
+        headers.append(&ORIGIN, &self.origin)
     }
 
-    // The list goes on with the origin of a page, and the method and the headers that it asks for.
-    fn put_all(&self, headers: &mut HeaderList) -> Result<(), AllocError> {
+    // The headers go on with the origin of a page, and the method and the headers that it asks for.
+    fn put_all(&self, headers: &mut RequestHeaders) -> Result<(), AllocError> {
         self.put_origin(headers)?;
-        append(headers, ACCESS_CONTROL_REQUEST_METHOD, &self.method)?;
-        append(headers, ACCESS_CONTROL_REQUEST_HEADERS, &self.headers)
+        headers.append(&ACCESS_CONTROL_REQUEST_METHOD, &self.method)?;
+        headers.append(&ACCESS_CONTROL_REQUEST_HEADERS, &self.headers)
     }
 
     // A page of the origin reads `/`.
     fn simple(&self, alloc: Global) -> Result<Request, AllocError> {
-        let mut headers = HeaderList::new(alloc);
+        let mut headers = RequestHeaders::new(alloc);
         match self.put_origin(&mut headers) {
             Ok(()) => bare(alloc, Method::GET, headers),
             Err(error) => Err(error),
@@ -133,7 +119,7 @@ impl Asked {
 
     // A page of the origin asks whether it may send the method with the headers.
     fn preflight(&self, alloc: Global) -> Result<Request, AllocError> {
-        let mut headers = HeaderList::new(alloc);
+        let mut headers = RequestHeaders::new(alloc);
         match self.put_all(&mut headers) {
             Ok(()) => bare(alloc, Method::OPTIONS, headers),
             Err(error) => Err(error),

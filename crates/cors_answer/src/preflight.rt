@@ -1,5 +1,6 @@
 //! The answer to a preflight (Fetch Standard, "CORS protocol").
-ghost use Rattle.std.specs.Prelude.{◌≡◌, ◌++◌, [], IfOk, OnOk, codes, option_copied, decimal, option_map};
+ghost use Rattle.std.specs.Prelude.{◌≡◌, ◌++◌, [], IfOk, IfSome, OnOk, codes, option_copied, decimal, option_map};
+ghost use Rattle.http1_plain.specs.Fields.{IsValue};
 ghost use Rattle.http1_plain.specs.Views.{view};
 ghost use Rattle.cors_rules.specs.Sets.{joined_some};
 ghost use Rattle.cors_rules.specs.Origins.{granted_value};
@@ -8,7 +9,7 @@ ghost use Rattle.cors_rules.specs.Fields.{allowed_value, field, vary, when};
 ghost use Rattle.cors_rules.specs.Answers.{and_then, preflight_check, preflight_headers, preflight};
 
 use crate::refusal::CorsRefusal;
-use cors_policy::{OriginRule, Policy, detached, origin_in, push_field, true_where, vary_where};
+use cors_policy::{OriginRule, Policy, copied, origin_in, push_field, true_where, vary_where};
 use cors_rules::{AllOrSome, CorsError};
 use cors_sets::{TextSet, number_value};
 use http_header::{
@@ -43,8 +44,9 @@ fn check_preflight<G: OriginRule>(policy: &Policy<G>, head: &RequestHead) -> Res
 }
 
 // The headers that the request will have.
-fn asked_headers(head: &RequestHead) -> Option<&FieldValue>
-    ensures { option_copied result ≡ asked_headers (view head.now) }
+fn asked_headers(head: &RequestHead) -> Option<&[u8]>
+    ensures value { option_copied result ≡ asked_headers (view head.now) }
+    ensures valid { IfSome result (λ names. IsValue names.now) }
 {
     head.headers.get(&ACCESS_CONTROL_REQUEST_HEADERS)
 }
@@ -53,15 +55,16 @@ fn asked_headers(head: &RequestHead) -> Option<&FieldValue>
 fn allowed_value(
     names: &AllOrSome<TextSet>,
     alloc: Global,
-    asked: Option<&FieldValue>,
+    asked: Option<&[u8]>,
 ) -> Result<Option<FieldValue>, AllocError>
+    requires { IfSome asked (λ names. IsValue names.now) }
     ensures { IfOk result (λ value. value ≡ allowed_value names.now (option_copied asked.entry)) }
 {
     match names {
-        AllOrSome::All => detached(asked),
+        AllOrSome::All => copied(alloc, asked),
         AllOrSome::Some(names) => {
             if names.is_empty() {
-                detached(asked)
+                copied(alloc, asked)
             } else {
                 names.joined_some(alloc)
             }

@@ -26,7 +26,7 @@ pub enum Verdict {
 fn judge<G: OriginRule>(
     policy: &Policy<G>,
     head: &RequestHead,
-    origin: Option<&FieldValue>,
+    origin: Option<&[u8]>,
 ) -> Result<bool, CorsError>
     requires { option_copied origin ≡ origin_of (view head.now) }
     ensures { result ≡ judged G.allowed policy.now (view head.now) }

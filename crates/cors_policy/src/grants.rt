@@ -1,5 +1,6 @@
 //! Whom a policy grants.
-ghost use Rattle.std.specs.Prelude.{◌≡◌, ◌&&◌, Ok, Err, IfOk, option_copied};
+ghost use Rattle.std.specs.Prelude.{◌≡◌, ◌&&◌, Ok, Err, IfOk, IfSome, option_copied};
+ghost use Rattle.http1_plain.specs.Fields.{IsValue};
 ghost use Rattle.http1_plain.specs.Views.{view};
 ghost use Rattle.cors_rules.specs.Allowed.{is_all, finite_part};
 ghost use Rattle.cors_rules.specs.Sets.{holds};
@@ -15,26 +16,27 @@ use http1_plain::{FieldValue, RequestHead};
 use std::alloc::{AllocError, Global};
 
 /// The request's `Origin` (RFC 6454, section 7), if it stands there: the first where there are several.
-pub fn origin_in(head: &RequestHead) -> Option<&FieldValue>
-    ensures { option_copied result ≡ origin_of (view head.now) }
+pub fn origin_in(head: &RequestHead) -> Option<&[u8]>
+    ensures value { option_copied result ≡ origin_of (view head.now) }
+    ensures valid { IfSome result (λ origin. IsValue origin.now) }
 {
     head.headers.get(&ORIGIN)
 }
 
-/// A copy of a request's value, where there is one, or an error where memory ran out. One of at most 1,024 bytes keeps no part
-/// of the head alive.
-pub fn detached(value: Option<&FieldValue>) -> Result<Option<FieldValue>, AllocError>
+/// A copy of a request's value, where there is one, or an error where memory ran out.
+pub fn copied(alloc: Global, value: Option<&[u8]>) -> Result<Option<FieldValue>, AllocError>
+    requires { IfSome value (λ value. IsValue value.now) }
     ensures { IfOk result (λ copy. copy ≡ option_copied value.entry) }
 {
     match value {
         None => Ok(None),
-        Some(value) => Ok(Some(value.detached()?)),
+        Some(value) => Ok(Some(FieldValue::of_field_bytes(alloc, value)?)),
     }
 }
 
 impl<G: OriginRule> Policy<G> {
     // Whether the finite set holds the origin.
-    fn has_origin(&self, origin: &FieldValue) -> bool
+    fn has_origin(&self, origin: &[u8]) -> bool
         ensures { result ≡ holds (finite_part self.now.origins) origin.now }
     {
         match &self.origins {
@@ -51,10 +53,10 @@ impl<G: OriginRule> Policy<G> {
     }
 
     // Whether the origin is granted.
-    fn grants(&self, head: &RequestHead, origin: &FieldValue) -> bool
+    fn grants(&self, head: &RequestHead, origin: &[u8]) -> bool
         ensures { result ≡ grants G.allowed self.now (view head.now) origin.now }
     {
-        self.has_origin(origin) || self.rule_allows(head, origin.as_bytes())
+        self.has_origin(origin) || self.rule_allows(head, origin)
     }
 
     /// Whether the origin is granted, or why the request is refused, where the caller has looked up the request's `Origin`.
@@ -62,7 +64,7 @@ impl<G: OriginRule> Policy<G> {
     pub fn validate_origin_value(
         &self,
         head: &RequestHead,
-        origin: Option<&FieldValue>,
+        origin: Option<&[u8]>,
     ) -> Result<bool, CorsError>
         requires { option_copied origin ≡ origin_of (view head.now) }
         ensures { result ≡ validate_origin G.allowed self.now (view head.now) }
@@ -105,26 +107,23 @@ impl<G: OriginRule> Policy<G> {
         if self.writes_wildcard() {
             return Some(b"*");
         }
-        match origin_in(head) {
-            Some(origin) => Some(origin.as_bytes()),
-            None => None,
-        }
+        origin_in(head)
     }
 
-    /// The value that a grant writes, for an answer to a request with this head and this `Origin`. An `Origin` of at most
-    /// 1,024 bytes is copied, so that the value keeps no part of the head; a longer one is shared with the request.
+    /// The value that a grant writes, for an answer to a request with this head and this `Origin`, which is copied.
     pub fn grant_value(
         &self,
         alloc: Global,
         _head: &RequestHead,
-        origin: Option<&FieldValue>,
+        origin: Option<&[u8]>,
     ) -> Result<Option<FieldValue>, AllocError>
-        requires { option_copied origin ≡ origin_of (view _head.now) }
+        requires same { option_copied origin ≡ origin_of (view _head.now) }
+        requires valid { IfSome origin (λ origin. IsValue origin.now) }
         ensures { IfOk result (λ value. value ≡ granted_value self.now (view _head.now)) }
     {
         if self.writes_wildcard() {
             return Ok(Some(literal(alloc, "*")?));
         }
-        detached(origin)
+        copied(alloc, origin)
     }
 }

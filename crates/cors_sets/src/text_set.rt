@@ -111,15 +111,20 @@ impl TextSet {
         Ok(())
     }
 
-    /// Whether the text is a member, by a search of the row or else of the set.
-    #[tactic(auto, using(crate::proofs::SetSteps::searched))]
-    pub fn contains(&self, text: &FieldValue) -> bool
+    /// Whether the text is a member, by a search of the row, and where there is none by a scan.
+    pub fn contains(&self, text: &[u8]) -> bool
         ensures { result ≡ holds self.now text.now }
     {
         match &self.row {
-            Some(row) => row.contains(text.as_bytes()),
-            None => self.texts.contains(text),
+            Some(row) => row.contains(text),
+            None => self.scan(text),
         }
+    }
+
+    fn scan(&self, text: &[u8]) -> bool
+        ensures { result ≡ holds self.now text.now }
+    {
+        self.texts.iter().any(|member| text == member.as_bytes())
     }
 
     /// Whether the name, in lower case, is a member: by a search of the row, and where there is none by a scan.

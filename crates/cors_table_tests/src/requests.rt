@@ -3,7 +3,7 @@
 use cors_plain::{Head, Header};
 use http::method::Method;
 use http_header::HeaderName;
-use http1_plain::{FieldValue, HeaderList, HttpVersion, Request, RequestHead};
+use http1_plain::{FieldValue, HeaderList, HttpVersion, Request, RequestHead, RequestHeaders};
 use service_core::{Octets, Peer};
 use std::alloc::{AllocError, Global};
 
@@ -362,7 +362,7 @@ fn method_of(alloc: Global, text: &str) -> Result<Method, AllocError> {
     }
 }
 
-fn request_by(alloc: Global, method: Method, target: Octets, headers: HeaderList) -> Request {
+fn request_by(alloc: Global, method: Method, target: Octets, headers: RequestHeaders) -> Request {
     Request {
         head: RequestHead {
             method,
@@ -379,7 +379,7 @@ fn request_at(
     alloc: Global,
     method: Method,
     target: Result<Octets, AllocError>,
-    headers: HeaderList,
+    headers: RequestHeaders,
 ) -> Result<Request, AllocError> {
     match target {
         Ok(target) => Ok(request_by(alloc, method, target, headers)),
@@ -394,7 +394,7 @@ fn request_at(
 fn request_of(
     alloc: Global,
     method: Result<Method, AllocError>,
-    headers: HeaderList,
+    headers: RequestHeaders,
 ) -> Result<Request, AllocError> {
     match method {
         Ok(method) => request_at(alloc, method, Octets::of(alloc, b"/"), headers),
@@ -405,12 +405,24 @@ fn request_of(
     }
 }
 
+// The headers of a request, as they stand in the list.
+fn headers_of(list: Result<HeaderList, AllocError>) -> Result<RequestHeaders, AllocError> {
+    match list {
+        Ok(list) => {
+            let headers = RequestHeaders::from_list(&list);
+            drop(list);
+            headers
+        }
+        Err(error) => Err(error),
+    }
+}
+
 fn request_with(
     alloc: Global,
     method: &str,
     headers: Result<HeaderList, AllocError>,
 ) -> Result<Request, AllocError> {
-    match headers {
+    match headers_of(headers) {
         Ok(headers) => request_of(alloc, method_of(alloc, method), headers),
         Err(error) => Err(error),
     }

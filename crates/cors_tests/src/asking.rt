@@ -9,7 +9,8 @@ use futures::test::MockTask;
 use http::method::Method;
 use http_header::HeaderName;
 use http1_plain::{
-    FieldValue, HeaderList, HttpVersion, Request, RequestHead, Response, write_response,
+    FieldValue, HeaderList, HttpVersion, Request, RequestHead, RequestHeaders, Response,
+    write_response,
 };
 use service_core::{Octets, Peer, Service, Transform};
 use std::alloc::{AllocError, AllocGlobal, Global};
@@ -102,11 +103,23 @@ pub(crate) fn list_of(alloc: Global, fields: &[(&str, &str)]) -> Result<HeaderLi
     }
 }
 
+// The headers of a request, as they stand in the list.
+fn headers_of(list: Result<HeaderList, AllocError>) -> Result<RequestHeaders, AllocError> {
+    match list {
+        Ok(list) => {
+            let headers = RequestHeaders::from_list(&list);
+            drop(list);
+            headers
+        }
+        Err(error) => Err(error),
+    }
+}
+
 // A head for `/` with the headers.
 fn head_with(
     alloc: Global,
     method: Method,
-    headers: HeaderList,
+    headers: RequestHeaders,
 ) -> Result<RequestHead, AllocError> {
     match Octets::of(alloc, b"/") {
         Ok(target) => Ok(RequestHead {
@@ -125,7 +138,7 @@ fn head_with(
 
 /// A head for `/`.
 pub(crate) fn head(alloc: Global, asked: Asked) -> Result<RequestHead, AllocError> {
-    match list_of(alloc, asked.1) {
+    match headers_of(list_of(alloc, asked.1)) {
         Ok(headers) => head_with(alloc, method_of(asked.0), headers),
         Err(error) => Err(error),
     }

@@ -1,7 +1,7 @@
 //! A request's origin, and a copy of it.
 use crate::asking::{Asked, Verb, head};
 use crate::shown::hold;
-use cors_policy::{detached, origin_in};
+use cors_policy::{copied, origin_in};
 use http1_plain::{FieldValue, RequestHead};
 use std::alloc::{AllocError, Global};
 use std::test::Fail;
@@ -18,15 +18,19 @@ fn is_copy(
     }
 }
 
-fn has_origin(head: &RequestHead, wanted: Option<&[u8]>) -> Result<bool, AllocError> {
-    is_copy(&detached(origin_in(head)), wanted)
+fn has_origin(
+    alloc: Global,
+    head: &RequestHead,
+    wanted: Option<&[u8]>,
+) -> Result<bool, AllocError> {
+    is_copy(&copied(alloc, origin_in(head)), wanted)
 }
 
 // Whether a copy of the origin of such a request is these bytes.
 fn origin_is(alloc: Global, asked: Asked, wanted: Option<&[u8]>) -> Result<bool, AllocError> {
     match head(alloc, asked) {
         Ok(head) => {
-            let shown = has_origin(&head, wanted);
+            let shown = has_origin(alloc, &head, wanted);
             drop(head);
             shown
         }

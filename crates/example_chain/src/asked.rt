@@ -1,12 +1,12 @@
 //! The requests.
 use http::method::Method;
 use http_header::ORIGIN;
-use http1_plain::{FieldValue, HeaderList, HttpVersion, Request, RequestHead};
+use http1_plain::{FieldValue, HttpVersion, Request, RequestHead, RequestHeaders};
 use service_core::{Octets, Peer};
 use std::alloc::{AllocError, Global};
 
 // A GET of `/` with the headers.
-fn get(alloc: Global, headers: HeaderList) -> Result<Request, AllocError> {
+fn get(alloc: Global, headers: RequestHeaders) -> Result<Request, AllocError> {
     match Octets::of(alloc, b"/") {
         Ok(target) => Ok(Request {
             head: RequestHead {
@@ -22,17 +22,17 @@ fn get(alloc: Global, headers: HeaderList) -> Result<Request, AllocError> {
     }
 }
 
-// The list goes on with the origin.
-fn put_shop(alloc: Global, headers: &mut HeaderList) -> Result<(), AllocError> {
+// The headers go on with the origin.
+fn put_shop(alloc: Global, headers: &mut RequestHeaders) -> Result<(), AllocError> {
     match FieldValue::of_field_bytes(alloc, b"https://shop.example") {
-        Ok(origin) => headers.append(ORIGIN, origin),
+        Ok(origin) => headers.append(&ORIGIN, &origin),
         Err(error) => Err(error),
     }
 }
 
 /// What a browser asks for a page of `https://shop.example`.
 pub fn of_the_shop(alloc: Global) -> Result<Request, AllocError> {
-    let mut headers = HeaderList::new(alloc);
+    let mut headers = RequestHeaders::new(alloc);
     match put_shop(alloc, &mut headers) {
         Ok(()) => get(alloc, headers),
         Err(error) => Err(error),
@@ -41,5 +41,5 @@ pub fn of_the_shop(alloc: Global) -> Result<Request, AllocError> {
 
 /// A request that names no origin.
 pub fn of_no_origin(alloc: Global) -> Result<Request, AllocError> {
-    get(alloc, HeaderList::new(alloc))
+    get(alloc, RequestHeaders::new(alloc))
 }

@@ -2,7 +2,7 @@
 use crate::shown::{push_bytes, push_line};
 use crate::size::Size;
 use http1_head::ReadHead;
-use http1_plain::{HeaderList, HttpVersion, RequestHead};
+use http1_plain::{HeaderList, HttpVersion, RequestHead, RequestHeaders};
 use http1_reader::{Reader, Step};
 use std::alloc::{AllocError, Global};
 
@@ -20,6 +20,18 @@ fn push_headers(text: &mut String, headers: &HeaderList) -> Result<(), AllocErro
         push_line(text, ":", value.as_bytes())?;
     }
     Ok(())
+}
+
+// The headers with their names in lower case, whatever the case in which they were sent.
+fn push_listed(text: &mut String, headers: &RequestHeaders) -> Result<(), AllocError> {
+    match headers.to_list() {
+        Ok(list) => {
+            let pushed = push_headers(text, &list);
+            drop(list);
+            pushed
+        }
+        Err(error) => Err(error),
+    }
 }
 
 // What the head asks of its connection.
@@ -42,7 +54,7 @@ fn push_head(text: &mut String, head: &RequestHead) -> Result<(), AllocError> {
     text.push_str(" ")?;
     push_bytes(text, head.target.as_bytes())?;
     text.push_str(version_text(head.version))?;
-    push_headers(text, &head.headers)
+    push_listed(text, &head.headers)
 }
 
 fn push_status(text: &mut String, status: u16) -> Result<(), AllocError> {

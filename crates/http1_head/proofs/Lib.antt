@@ -1,6 +1,5 @@
 pub mod ScanSteps
 pub mod PassingSteps
-pub mod HeaderSteps
 pub mod HeadSteps
 pub mod FramingSteps
 pub mod NextSteps

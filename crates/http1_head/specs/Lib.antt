@@ -1,5 +1,4 @@
 pub mod Asking
 pub mod Framings
 pub mod Passing
-pub mod Sharing
 pub mod Steps

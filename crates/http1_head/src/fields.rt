@@ -4,6 +4,7 @@ ghost use Rattle.http_header.specs.Token.{lowercase};
 ghost use Rattle.http1_grammar.specs.Framing.{framing};
 ghost use Rattle.http1_grammar.specs.Head.{Head};
 ghost use Rattle.http1_grammar.specs.Headers.{Header};
+ghost use Rattle.http1_plain.specs.Fields.{lowered};
 ghost use Rattle.http1_plain.specs.Views.{minor_version};
 ghost use Rattle.http1_head.specs.Asking.{IsAskedBy, IsSaidBy};
 ghost use Rattle.http1_head.specs.Framings.{capped};
@@ -11,7 +12,7 @@ ghost use Rattle.http1_head.specs.Framings.{capped};
 use crate::asks::Asks;
 use crate::framing::{Framing, framing_by};
 use crate::options::ConnectionOptions;
-use http1_plain::{FieldValue, HeaderList, HttpVersion, Single};
+use http1_plain::{HttpVersion, RequestHeaders, Single, is_name};
 
 /// What the fields say by which a body is framed, and by which something is asked of the connection.
 #[derive(Clone, Copy)]
@@ -42,31 +43,32 @@ impl<'a> Fields<'a> {
         }
     }
 
-    // With one more header.
-    fn and(self, name: &[u8], value: &'a FieldValue) -> Fields<'a>
+    // With one more header, whose name is in any case.
+    fn and(self, name: &[u8], value: &'a [u8]) -> Fields<'a>
         ensures { (headers : List Header) → IsSaidBy headers self.entry
-            → IsSaidBy (headers ++ (name.now, value.now) ∷ []) result }
+            → IsSaidBy (headers ++ lowered (name.now, value.now) ∷ []) result }
     {
         let mut fields = self;
-        if name == b"transfer-encoding".as_slice() {
+        if is_name(name, b"transfer-encoding") {
             fields.coding = fields.coding.and(value);
-        } else if name == b"content-length".as_slice() {
+        } else if is_name(name, b"content-length") {
             fields.length = fields.length.and(value);
-        } else if name == b"connection".as_slice() {
-            fields.options = fields.options.and(value.as_bytes());
-        } else if name == b"expect".as_slice() {
-            fields.expectation = has_expectation(fields.expectation, value.as_bytes());
+        } else if is_name(name, b"connection") {
+            fields.options = fields.options.and(value);
+        } else if is_name(name, b"expect") {
+            fields.expectation = has_expectation(fields.expectation, value);
         }
         fields
     }
 
     /// What these headers say, from one walk over them.
-    pub(crate) fn of(headers: &'a HeaderList) -> Fields<'a>
+    pub(crate) fn of(headers: &'a RequestHeaders) -> Fields<'a>
         ensures { IsSaidBy headers.now result }
     {
         let mut fields = Fields::none();
-        for (name, value) in headers.entries() {
-            fields = fields.and(name.as_bytes(), value);
+        for place in 0..headers.len() {
+            let (name, value) = headers.line(place);
+            fields = fields.and(name, value);
         }
         fields
     }

@@ -85,8 +85,8 @@ pub(crate) fn framing_by(
 {
     match (coding, length) {
         (Single::Missing, Single::Missing) => Framing::Empty,
-        (Single::Missing, Single::One(value)) => length_framing(value.as_bytes(), most),
-        (Single::One(value), Single::Missing) => coding_framing(version, value.as_bytes()),
+        (Single::Missing, Single::One(value)) => length_framing(value, most),
+        (Single::One(value), Single::Missing) => coding_framing(version, value),
         _ => Framing::Faulty,
     }
 }

@@ -1,139 +1,19 @@
 //! The head of a request, read from its text.
-ghost use Rattle.std.specs.Prelude.{◌≡◌, ◌≤◌, ◌+◌, length, count_by, take, map, All, IfOk, IfSome, option_map};
-ghost use Rattle.std.specs.List.{slice_range};
-ghost use Rattle.http_header.specs.FieldName.{IsFieldName};
-ghost use Rattle.http_header.specs.Token.{IsToken, lowercase};
+ghost use Rattle.std.specs.Prelude.{◌≡◌, ◌≤◌, ◌+◌, length, count_by, IfOk, option_map};
+ghost use Rattle.http_header.specs.Token.{IsToken};
 ghost use Rattle.httparse.specs.Grammar.{RequestHead as Tree};
-ghost use Rattle.httparse.specs.Spans.{IsWithin, span_bytes, IsHeaderWithin, header_bytes, IsRequestWithin, IsRequestOf, IsRequestAt};
+ghost use Rattle.httparse.specs.Spans.{IsRequestWithin, IsRequestOf, IsRequestAt};
 ghost use Rattle.http1_grammar.specs.Lines.{is_line_feed, empty_line};
 ghost use Rattle.http1_grammar.specs.Head.{head_of};
 ghost use Rattle.http1_grammar.specs.RequestText.{request_head};
-ghost use Rattle.http1_plain.specs.Fields.{IsPair, IsValue, lowered};
 ghost use Rattle.http1_plain.specs.Views.{minor_version, view};
-ghost use Rattle.http1_head.specs.Sharing.{doubled};
 
-use bytes::Bytes;
 use http::method::{Method, MethodError};
-use http_header::{HeaderName, HeaderNameError};
-use http1_plain::{FieldValue, HeaderList, HttpVersion, RequestHead};
+use http1_plain::{HttpVersion, RequestHead, RequestHeaders};
 use httparse::Status;
-use httparse::spans::{EMPTY_HEADER_SPAN, HeaderSpan, RequestSpans, Span, parse_request};
+use httparse::spans::{EMPTY_HEADER_SPAN, HeaderSpan, RequestSpans, parse_request};
 use service_core::Octets;
 use std::alloc::{AllocError, Global};
-
-// The text in lower case, and the text itself behind it.
-fn doubled(alloc: Global, text: &[u8]) -> Result<Bytes, AllocError>
-    requires { length text.now ≤ 65535 }
-    ensures { IfOk result (λ both. both ≡ doubled text.now) }
-{
-    let mut both = Vec::with_capacity(alloc, text.len() * 2)?;
-    both.extend_from_slice(text)?;
-    both.as_mut_slice().make_ascii_lowercase();
-    both.extend_from_slice(text)?;
-    Ok(Bytes::from_vec(both)?)
-}
-
-// A part of the doubled text, which is made for the first that shares it.
-fn part_at(
-    alloc: Global,
-    text: &[u8],
-    both: &mut Option<Bytes>,
-    start: usize,
-    end: usize,
-) -> Result<Bytes, AllocError>
-    requires size { length text.now ≤ 65535 }
-    requires order { start ≤ end }
-    requires within { end ≤ length text.now + length text.now }
-    requires both { IfSome both.old (λ both. both ≡ doubled text.now) }
-    ensures part { IfOk result (λ part. part ≡ slice_range (doubled text.now) start end) }
-    ensures both { IfSome both.new (λ both. both ≡ doubled text.now) }
-{
-    match both {
-        Some(both) => {
-            let part = both.slice(start..end)?;
-            Ok(part)
-        }
-        None => {
-            let made = doubled(alloc, text)?;
-            let part = made.slice(start..end)?;
-            *both = Some(made);
-            Ok(part)
-        }
-    }
-}
-
-// The name that the bytes are.
-fn name_of(alloc: Global, bytes: Bytes) -> Result<HeaderName, AllocError>
-    requires { IsFieldName bytes }
-    ensures { IfOk result (λ name. name ≡ lowercase bytes) }
-{
-    match HeaderName::from_shared(alloc, bytes) {
-        Ok(name) => Ok(name),
-        Err(HeaderNameError::Invalid) => unreachable!(),
-        Err(HeaderNameError::OutOfMemory) => Err(AllocError),
-    }
-}
-
-// The name that the span covers. One that is no standard name shares the text in lower case.
-#[tactic(auto, using(crate::proofs::HeaderSteps::shared_valid, crate::proofs::HeaderSteps::shared_is))]
-fn name_at(
-    alloc: Global,
-    text: &[u8],
-    both: &mut Option<Bytes>,
-    span: Span,
-) -> Result<HeaderName, AllocError>
-    requires size { length text.now ≤ 65535 }
-    requires within { IsWithin (length text.now) span }
-    requires valid { IsFieldName (span_bytes text.now span) }
-    requires both { IfSome both.old (λ both. both ≡ doubled text.now) }
-    ensures name { IfOk result (λ name. name ≡ lowercase (span_bytes text.now span)) }
-    ensures both { IfSome both.new (λ both. both ≡ doubled text.now) }
-{
-    if let Some(name) = HeaderName::standard(span.of(text)) {
-        return Ok(name);
-    }
-    let part = part_at(alloc, text, both, span.start, span.end)?;
-    name_of(alloc, part)
-}
-
-// The value that the span covers. One of many bytes shares the text.
-fn value_at(
-    alloc: Global,
-    text: &[u8],
-    both: &mut Option<Bytes>,
-    span: Span,
-) -> Result<FieldValue, AllocError>
-    requires size { length text.now ≤ 65535 }
-    requires within { IsWithin (length text.now) span }
-    requires valid { IsValue (span_bytes text.now span) }
-    requires both { IfSome both.old (λ both. both ≡ doubled text.now) }
-    ensures value { IfOk result (λ value. value ≡ span_bytes text.now span) }
-    ensures both { IfSome both.new (λ both. both ≡ doubled text.now) }
-{
-    if let Some(value) = FieldValue::of_few_bytes(alloc, span.of(text)) {
-        return Ok(value);
-    }
-    let before = text.len();
-    let part = part_at(alloc, text, both, before + span.start, before + span.end)?;
-    Ok(FieldValue::from_shared(alloc, part))
-}
-
-// The headers that the spans cover.
-fn headers_at(alloc: Global, text: &[u8], spans: &[HeaderSpan]) -> Result<HeaderList, AllocError>
-    requires size { length text.now ≤ 65535 }
-    requires within { All (IsHeaderWithin (length text.now)) spans.now }
-    requires valid { All IsPair (map (header_bytes text.now) spans.now) }
-    ensures { IfOk result (λ list. list ≡ map lowered (map (header_bytes text.now) spans.now)) }
-{
-    let mut list = HeaderList::with_capacity(alloc, spans.len())?;
-    let mut both = None;
-    for span in spans {
-        let name = name_at(alloc, text, &mut both, span.name)?;
-        let value = value_at(alloc, text, &mut both, span.value)?;
-        list.append(name, value)?;
-    }
-    Ok(list)
-}
 
 fn version_of(minor: u8) -> HttpVersion
     requires { minor ≤ 1 }
@@ -174,7 +54,7 @@ fn head_at(
     let method = method_of(alloc, found.method.of(text))?;
     let target = Octets::of(alloc, found.path.of(text))?;
     let version = version_of(found.version);
-    let headers = headers_at(alloc, text, &spans[..found.headers])?;
+    let headers = RequestHeaders::of_spans(alloc, text, &spans[..found.headers])?;
     Ok(RequestHead {
         method,
         target,

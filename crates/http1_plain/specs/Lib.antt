@@ -1,6 +1,7 @@
 pub mod Fields
 pub mod Views
 pub mod Singles
+pub mod Spanned
 pub mod Faults
 pub mod ResponseLends
 pub mod NamesLeft

@@ -114,7 +114,7 @@ impl HeaderList {
         let mut found = Single::Missing;
         for entry in &self.entries {
             if entry.0.as_bytes() == name {
-                found = found.and(&entry.1);
+                found = found.and(entry.1.as_bytes());
             }
         }
         found

@@ -9,9 +9,6 @@ use std::marker::Model;
 /// The most bytes that lie in the value itself: then it is no larger than one whose bytes lie elsewhere.
 const FEW: usize = 24;
 
-/// The most bytes that are copied so that a longer text need not be kept.
-const MOST_COPIED: usize = 1024;
-
 /// Bytes of a header's value or of a body, wherever they stand.
 #[derive(Drop)]
 pub(crate) struct Text {
@@ -149,18 +146,6 @@ impl Text {
             Place::Few { bytes, alloc } => Text::of(*alloc, bytes.as_slice()),
             Place::Shared { bytes, alloc } => Ok(Text::from_shared(*alloc, bytes.clone()?)),
             Place::Owned(bytes) => Ok(Text::from_octets(bytes.copy()?)),
-        }
-    }
-
-    /// Equal bytes that share no long text with others unless they are long themselves.
-    pub(crate) fn detached(&self) -> Result<Text, AllocError>
-        ensures { IfOk result (λ copy. copy ≡ self.now) }
-    {
-        match &self.place {
-            Place::Shared { bytes, alloc } if bytes.as_slice().len() <= MOST_COPIED => {
-                Text::of(*alloc, bytes.as_slice())
-            }
-            _ => self.copy(),
         }
     }
 }

@@ -4,7 +4,7 @@ ghost use Rattle.http_tests.specs.declared.porter.Refusal.TheVariants.{Unwanted,
 
 use futures::Future;
 use futures::task::{Context, Poll};
-use http1_plain::{ErrorResponse, HeaderList, Request, RequestHead, Response};
+use http1_plain::{ErrorResponse, Request, RequestHead, RequestHeaders, Response};
 use service_core::{Octets, Service};
 use std::alloc::{AllocError, Global};
 
@@ -45,7 +45,7 @@ fn let_in(alloc: Global, req: Request) -> Result<Request, AllocError> {
         method: head.method,
         target,
         version: head.version,
-        headers: HeaderList::new(alloc),
+        headers: RequestHeaders::new(alloc),
     };
     Ok(Request { head, body, peer })
 }

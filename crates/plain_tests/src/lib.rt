@@ -10,6 +10,8 @@ mod header_tests;
 #[cfg(test)]
 mod headers;
 #[cfg(test)]
+mod request_header_tests;
+#[cfg(test)]
 mod request_tests;
 #[cfg(test)]
 mod response_tests;

@@ -1,10 +1,9 @@
 //! Values and bodies whose bytes lie in the program, in the value itself, or in memory that others share.
 use crate::bytes::{empty, is as is_text};
-use crate::headers::{lines, value_of};
+use crate::headers::value_of;
 use crate::shown::{hold, holds};
 use http::method::Method;
-use http1_head::{NextHead, next_head};
-use http1_plain::{FieldValue, HttpVersion, Limits, Response, write_response};
+use http1_plain::{FieldValue, HttpVersion, Response, write_response};
 use service_core::Octets;
 use std::alloc::{AllocError, Global};
 use std::test::Fail;
@@ -90,70 +89,6 @@ fn a_copy_that_grows_leaves_what_it_shared(rt: HostRuntime) -> Result<(), Fail> 
     )
 }
 
-// Whether a value of these bytes, which it shares, is equal where it is detached.
-fn detaches(alloc: Global, text: &[u8]) -> Result<bool, AllocError> {
-    let value = shared(alloc, text)?;
-    let apart = value.detached();
-    drop(value);
-    Ok(is(&apart?, text))
-}
-
-// The long text, thirty times.
-fn longest(alloc: Global) -> Result<Octets, AllocError> {
-    let mut text = empty(alloc);
-    for _ in 0..30u8 {
-        text.push_all(long())?;
-    }
-    Ok(text)
-}
-
-// Whether 1,110 bytes are equal where they are detached.
-fn many_bytes_detach(alloc: Global) -> Result<bool, AllocError> {
-    detaches(alloc, longest(alloc)?.as_bytes())
-}
-
-#[test]
-fn detached_values_are_equal(rt: HostRuntime) -> Result<(), Fail> {
-    let alloc = rt.alloc();
-    hold(
-        &rt,
-        &[
-            detaches(alloc, b"https://a.example"),
-            detaches(alloc, long()),
-            many_bytes_detach(alloc),
-        ],
-    )
-}
-
-// The headers of the request at the front, told as lines.
-fn header_lines(alloc: Global, next: &NextHead) -> Result<Octets, AllocError> {
-    match next {
-        NextHead::Found(head, _, _) => lines(alloc, &head.head().headers),
-        _ => Ok(empty(alloc)),
-    }
-}
-
-// Whether the headers of the request at the front are these lines.
-fn has_lines(alloc: Global, text: &[u8], wanted: &[u8]) -> Result<bool, AllocError> {
-    let next = next_head(alloc, Limits::new(32_768, 1), text)?;
-    let lines = header_lines(alloc, &next);
-    drop(next);
-    Ok(is_text(&lines?, wanted))
-}
-
-fn are_those_of_its_text(alloc: Global) -> Result<bool, AllocError> {
-    let text =
-        b"GET / HTTP/1.1\r\nHOST: A Host of More than 24 Bytes\r\nX-One: Another VALUE of so many\r\nx-TWO: b\r\nx-one:\r\n\r\n".as_slice();
-    let wanted =
-        b"host=A Host of More than 24 Bytes;x-one=Another VALUE of so many;x-two=b;x-one=;";
-    has_lines(alloc, text, wanted)
-}
-
-#[test]
-fn headers_of_a_head_are_those_of_its_text(rt: HostRuntime) -> Result<(), Fail> {
-    holds(&rt, are_those_of_its_text(rt.alloc()))
-}
-
 // A response with a body of the program.
 fn static_response(alloc: Global) -> Response {
     let mut response = Response::new(alloc, 200);
@@ -186,23 +121,4 @@ fn a_static_body_is_written(alloc: Global) -> Result<bool, AllocError> {
 #[test]
 fn a_body_of_the_program_is_written(rt: HostRuntime) -> Result<(), Fail> {
     holds(&rt, a_static_body_is_written(rt.alloc()))
-}
-
-fn is_of_few(value: &Option<FieldValue>, bytes: &[u8]) -> bool {
-    match value {
-        Some(value) => is(value, bytes),
-        None => false,
-    }
-}
-
-// Whether 24 bytes are few, and one more are not.
-fn few_are_24(alloc: Global) -> bool {
-    let few = FieldValue::of_few_bytes(alloc, b"twenty-four bytes are fe");
-    let more = FieldValue::of_few_bytes(alloc, b"twenty-five bytes are not");
-    is_of_few(&few, b"twenty-four bytes are fe") && more.is_none()
-}
-
-#[test]
-fn few_bytes_lie_in_the_value_itself(rt: HostRuntime) -> Result<(), Fail> {
-    holds(&rt, Ok(few_are_24(rt.alloc())))
 }

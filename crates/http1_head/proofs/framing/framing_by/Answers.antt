@@ -1,5 +1,4 @@
-use Rattle.std.proofs.Common.{sym, subst, ap, ◌∙◌, refl}
-use Rattle.http1_grammar.specs.Framing.{coding_framing, number_framing}
+use Rattle.std.proofs.Common.{sym, subst, ap, refl}
 use Rattle.http1_plain.specs.Singles.{IsSingle}
 use Rattle.http1_plain.specs.Views.{minor_version}
 use Rattle.http1_head.specs.Framings.{capped}
@@ -13,13 +12,12 @@ returns-in-Missing-Missing c = λ codings lengths coding len.
 pub returns-in-Missing-One : goal.returns-in-Missing-One
 returns-in-Missing-One c = λ codings lengths coding len.
     rw (subst (IsSingle codings) c.in-Missing-One.is-0 coding, subst (IsSingle lengths) c.in-Missing-One.is-1 len)
-    (c.length_framing.ensures ∙ ap (λ bs. capped c.args.most (number_framing bs)) c.as_bytes.ensures)
+    c.length_framing.ensures
 
 pub returns-in-One-Missing : goal.returns-in-One-Missing
 returns-in-One-Missing c = λ codings lengths coding len.
     rw (subst (IsSingle codings) c.in-One-Missing.is-0 coding, subst (IsSingle lengths) c.in-One-Missing.is-1 len)
-    (c.coding_framing.ensures c.args.most
-    ∙ ap (λ bs. capped c.args.most (coding_framing (minor_version c.args.version) bs)) c.as_bytes-in-One-Missing.ensures)
+    (c.coding_framing.ensures c.args.most)
 
 pub returns-in_default : goal.returns-in_default
 returns-in_default c = λ codings lengths coding len.

@@ -2,7 +2,7 @@ use Rattle.std.proofs.Common.{◌≡◌, sym, subst, ◌∙◌, map}
 use Rattle.http1_grammar.specs.Head.{header_of}
 use Rattle.http1_plain.specs.Views.{minor_version}
 use Rattle.http_header.specs.Token.{IsToken}
-use Rattle.http1_head.proofs.HeadSteps.{token_of, pairs_at, headers_are}
+use Rattle.http1_head.proofs.HeadSteps.{token_of, spans_at, headers_are}
 use Rattle.http1_head.proofs.head.head_at.Goals as goal
 
 pub method_of-requires : goal.method_of-requires
@@ -11,10 +11,11 @@ method_of-requires c =
     let at = c.requires.tree.1 in
     subst IsToken (sym (c.of.ensures ∙ at.method)) (token_of tree.method at.reads.0.method)
 
-pub headers_at-requires-clause-valid : goal.headers_at-requires-clause-valid
-headers_at-requires-clause-valid c =
+pub of_spans-requires : goal.of_spans-requires
+of_spans-requires c =
     let at = c.requires.tree.1 in
-    pairs_at c.args.text.now _ c.requires.tree.0.fields c.requires.size at.reads.0.fields at.fields
+    spans_at c.args.text.now _ c.args.found.len c.requires.tree.0.fields c.requires.size c.requires.within.section.len_fits
+    c.requires.within.section.headers_fit at.reads.0.fields at.fields
 
 pub returns : goal.returns
 returns c = λ tree at.
