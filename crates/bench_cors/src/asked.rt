@@ -10,6 +10,11 @@ use http1_plain::{FieldFault, FieldValue, HttpVersion, Request, RequestHead, Req
 use service_core::{Octets, Peer};
 use std::alloc::{AllocError, Global};
 
+// At least as many bytes as the names and values of a request have here: more would be asked for where they are not enough.
+const SIMPLE_BYTES: usize = 64;
+
+const PREFLIGHT_BYTES: usize = 192;
+
 /// What each request says.
 #[derive(Drop)]
 pub struct Asked {
@@ -110,7 +115,7 @@ impl Asked {
 
     // A page of the origin reads `/`.
     fn simple(&self, alloc: Global) -> Result<Request, AllocError> {
-        let mut headers = RequestHeaders::new(alloc);
+        let mut headers = RequestHeaders::with_capacity(alloc, 1, SIMPLE_BYTES)?;
         match self.put_origin(&mut headers) {
             Ok(()) => bare(alloc, Method::GET, headers),
             Err(error) => Err(error),
@@ -119,7 +124,7 @@ impl Asked {
 
     // A page of the origin asks whether it may send the method with the headers.
     fn preflight(&self, alloc: Global) -> Result<Request, AllocError> {
-        let mut headers = RequestHeaders::new(alloc);
+        let mut headers = RequestHeaders::with_capacity(alloc, 3, PREFLIGHT_BYTES)?;
         match self.put_all(&mut headers) {
             Ok(()) => bare(alloc, Method::OPTIONS, headers),
             Err(error) => Err(error),

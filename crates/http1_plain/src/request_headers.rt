@@ -99,6 +99,21 @@ impl RequestHeaders {
         }
     }
 
+    /// No headers, with the memory for so many, whose names and values have so many bytes together.
+    pub fn with_capacity(
+        alloc: Global,
+        headers: usize,
+        bytes: usize,
+    ) -> Result<RequestHeaders, AllocError>
+        ensures { IfOk result (λ headers. headers ≡ []) }
+    {
+        let text = Octets::from_vec(Vec::with_capacity(alloc, bytes)?);
+        Ok(RequestHeaders {
+            text,
+            spans: Vec::with_capacity(alloc, headers)?,
+        })
+    }
+
     /// The headers that the spans cover, over a copy of the text, or an error where memory ran out.
     pub fn of_spans(
         alloc: Global,

@@ -214,8 +214,12 @@ fn append_both(alloc: Global, headers: &mut RequestHeaders) -> Result<bool, Allo
     Ok(were_none && !headers.is_empty())
 }
 
-fn appended_are_told(alloc: Global) -> Result<bool, AllocError> {
-    let mut headers = RequestHeaders::new(alloc);
+// Whether two headers that go behind those of none are told.
+fn appended_are_told(
+    alloc: Global,
+    none: Result<RequestHeaders, AllocError>,
+) -> Result<bool, AllocError> {
+    let mut headers = none?;
     let appended = append_both(alloc, &mut headers);
     let told = are_sent_so(alloc, &headers, b"host=a;age=;");
     drop(headers);
@@ -252,5 +256,12 @@ fn told(
 #[test]
 fn headers_are_put_behind_those_of_a_request(rt: HostRuntime) -> Result<(), Fail> {
     let alloc = rt.alloc();
-    hold(&rt, &[appended_are_told(alloc), of_a_list_are_told(alloc)])
+    hold(
+        &rt,
+        &[
+            appended_are_told(alloc, Ok(RequestHeaders::new(alloc))),
+            appended_are_told(alloc, RequestHeaders::with_capacity(alloc, 1, 3)),
+            of_a_list_are_told(alloc),
+        ],
+    )
 }
