@@ -6,7 +6,7 @@
 # times as long as among 2.
 set -eu
 top=$(cd "$(dirname "${BASH_SOURCE[0]}")/.." && pwd)
-(cd "$top/crates/bench_accept" && rt run -- 2 1 1 1 < /dev/null >&2)
+"$top/checks/built.sh" bench_accept 2 1 1 1 >&2
 
 PYTHONPATH="$top/bench" python3 -B - "$top/crates/bench_accept/out/bench_accept" <<'PY'
 import sys

@@ -7,7 +7,7 @@
 # answer under 1,000 takes above 3 times as long as under 3, or under 10,000 above 2.5 times as long as under 1,000.
 set -eu
 top=$(cd "$(dirname "${BASH_SOURCE[0]}")/.." && pwd)
-(cd "$top/crates/bench_cors" && rt run -- preflight 3 1 < /dev/null >&2)
+"$top/checks/built.sh" bench_cors preflight 3 1 >&2
 
 PYTHONPATH="$top/bench" python3 -B - "$top/crates/bench_cors/out/bench_cors" <<'PY'
 import sys

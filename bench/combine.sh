@@ -6,7 +6,7 @@
 # allocates, or where the first one, which readies the queue that polls it, allocates more than through one map.
 set -eu
 top=$(cd "$(dirname "${BASH_SOURCE[0]}")/.." && pwd)
-(cd "$top/crates/bench_combine" && rt run -- 1 1 < /dev/null >&2)
+"$top/checks/built.sh" bench_combine 1 1 >&2
 work=$(mktemp -d)
 trap 'rm -rf "$work"' EXIT
 

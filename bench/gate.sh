@@ -3,9 +3,9 @@
 # its tests, of the check that its must-fail edits begin with and of the edits themselves, and the most memory of a check;
 # then the sums, the longest chain (how long the gate takes on as many processors as it can use) and the crates above
 # their budget: a proof 3 minutes, tests 1.5, edits with the check that they begin with 5. It ends with the gate's status.
-# Words behind it go to `rt ci`, as names of crates: `bench/gate.sh server_core`. Nothing else should run meanwhile.
-# With `--log FILE` it runs `rt ci`, which does again only what was not passed on this machine, adds what that took to FILE,
-# and prints the table of all runs that FILE has: so a gate from nothing can be measured in several runs.
+# Words behind it go to `rt ci`, as names of crates where the kit's takes them: `bench/gate.sh server_core`. Nothing else should
+# run meanwhile. With `--log FILE` it runs `rt ci` alone, adds what that took to FILE, and prints the table of all runs that FILE
+# has: so where the kit keeps what it passed, a gate from nothing can be measured in several runs.
 set -eu
 top=$(cd "$(dirname "${BASH_SOURCE[0]}")/.." && pwd)
 work=$(mktemp -d)
@@ -36,7 +36,11 @@ cat > "$work/gate.py" <<'PY'
 import collections, importlib.machinery, importlib.util, json, os, shutil, sys, time
 sys.dont_write_bytecode = True
 work, log, names = sys.argv[1], sys.argv[2], sys.argv[3:]
-loader = importlib.machinery.SourceFileLoader("rt_command", os.path.realpath(shutil.which("rt")))
+command = os.path.realpath(shutil.which("rt"))
+# (a kit that keeps nothing has no `--anew`: each run of its `rt ci` is from nothing)
+if "--anew" not in open(command).read():
+    names = [it for it in names if it != "--anew"]
+loader = importlib.machinery.SourceFileLoader("rt_command", command)
 rt = importlib.util.module_from_spec(importlib.util.spec_from_loader("rt_command", loader))
 loader.exec_module(rt)
 os.environ.update(GATE_PROVER=rt.rtlib.RATTLE, GATE_LOG=log)

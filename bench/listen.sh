@@ -4,5 +4,5 @@
 # and that can be done; else what wants them is left out, with a word.
 set -eu
 top=$(cd "$(dirname "${BASH_SOURCE[0]}")/.." && pwd)
-(cd "$top/crates/bench_listen" && rt run -- 127.0.0.1:0 0 1 < /dev/null >&2)
+"$top/checks/built.sh" bench_listen 127.0.0.1:0 0 1 >&2
 PYTHONPATH="$top/bench:$top/checks" exec python3 -B "$top/bench/listen.py" "$top/crates/bench_listen/out/bench_listen"

@@ -5,7 +5,7 @@
 # much a line as 6, or chunks in pieces above 1.1 times what they cost whole.
 set -eu
 top=$(cd "$(dirname "${BASH_SOURCE[0]}")/.." && pwd)
-(cd "$top/crates/bench_reader" && rt run -- small 60 1 < /dev/null >&2)
+"$top/checks/built.sh" bench_reader small 60 1 >&2
 
 PYTHONPATH="$top/bench" python3 -B - "$top/crates/bench_reader/out/bench_reader" <<'PY'
 import sys

@@ -6,7 +6,7 @@
 # than with one.
 set -eu
 top=$(cd "$(dirname "${BASH_SOURCE[0]}")/.." && pwd)
-(cd "$top/crates/bench_requests" && rt run -- small 1 1 < /dev/null >&2)
+"$top/checks/built.sh" bench_requests small 1 1 >&2
 work=$(mktemp -d)
 trap 'rm -rf "$work"' EXIT
 ! command -v cc > /dev/null || cc -O1 -fPIC -shared -o "$work/allocations.so" "$top/checks/allocations.c"

@@ -7,7 +7,7 @@
 # time. A ratio says something only where nothing else runs on the machine and a processor is there for each worker and one more.
 set -eu
 top=$(cd "$(dirname "${BASH_SOURCE[0]}")/.." && pwd)
-(cd "$top/crates/bench_serve" && rt run -- count 1 1 1 0 < /dev/null >&2)
+"$top/checks/built.sh" bench_serve count 1 1 1 0 >&2
 
 PYTHONPATH="$top/bench" python3 -B - "$top/crates/bench_serve/out/bench_serve" <<'PY'
 import os, subprocess, sys

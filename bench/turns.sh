@@ -8,8 +8,8 @@
 # allocates.
 set -eu
 top=$(cd "$(dirname "${BASH_SOURCE[0]}")/.." && pwd)
-(cd "$top/crates/bench_requests" && rt run -- small 1 1 < /dev/null >&2)
-(cd "$top/crates/bench_turns" && rt run -- serve http 1 < /dev/null >&2)
+"$top/checks/built.sh" bench_requests small 1 1 >&2
+"$top/checks/built.sh" bench_turns serve http 1 >&2
 work=$(mktemp -d)
 trap 'rm -rf "$work"' EXIT
 ! command -v cc > /dev/null || cc -O1 -fPIC -shared -o "$work/allocations.so" "$top/checks/allocations.c"

@@ -11,8 +11,7 @@ sys.dont_write_bytecode = True
 from framing_table import USUAL, compare
 
 top = os.path.dirname(os.path.dirname(os.path.abspath(__file__)))
-crate = os.path.join(top, "crates", "example_reader")
-program = os.path.join(crate, "out", "example_reader")
+program = os.path.join(top, "crates", "example_reader", "out", "example_reader")
 
 
 def sizes_of(text):
@@ -33,7 +32,7 @@ def faults_of(row):
 
 
 def main():
-    built = subprocess.run(["rt", "run", "--", *USUAL, "1"], cwd=crate, stdin=subprocess.DEVNULL, capture_output=True, check=False)
+    built = subprocess.run([os.path.join(top, "checks", "built.sh"), "example_reader", *USUAL, "1"], capture_output=True, check=False)
     if built.returncode:
         sys.exit(built.stderr.decode()[-2000:])
     compare(faults_of)

@@ -12,7 +12,7 @@ fi
 work=$(mktemp -d)
 trap 'rm -rf "$work"' EXIT
 cc -O1 -fPIC -shared -o "$work/allocations.so" "$top/checks/allocations.c"
-(cd "$top/crates/bench_requests" && rt run -- chunk 1 1 < /dev/null > "$work/log" 2>&1) || { tail -5 "$work/log"; exit 1; }
+"$top/checks/built.sh" bench_requests chunk 1 1 > "$work/log" 2>&1 || { tail -5 "$work/log"; exit 1; }
 
 chunks=1000000
 COUNTED="$work/counted" LD_PRELOAD="$work/allocations.so" "$top/crates/bench_requests/out/bench_requests" chunk 16 $((chunks / 16)) > "$work/out"

@@ -125,7 +125,7 @@ def at_one_address():
 
 def stopped_by_a_request():
     folder = os.path.join(TOP, "crates", "example_stop")
-    subprocess.run(["rt", "run"], cwd=folder, stdin=subprocess.DEVNULL, capture_output=True)
+    subprocess.run([os.path.join(TOP, "checks", "built.sh"), "example_stop"], capture_output=True)
     port = free_port()
     command = [os.path.join(folder, "out", "example_stop"), f"127.0.0.1:{port}"]
     with subprocess.Popen(command, stdin=subprocess.DEVNULL, stdout=subprocess.PIPE, text=True) as program:
