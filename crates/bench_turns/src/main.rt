@@ -4,7 +4,6 @@
 
 mod ends;
 mod failure;
-mod hello;
 mod kind;
 mod load;
 mod reading;
@@ -26,7 +25,7 @@ use std::rt::Env;
 use std::sync::Wait;
 use tiny::Tiny;
 use turning::carried;
-use web::Web;
+use web::web;
 
 const USAGE: &str =
     "usage: bench_turns wait tiny|http CONNECTIONS TURNS, or bench_turns serve tiny|http CONNECTIONS";
@@ -44,7 +43,7 @@ fn http_written<R>(rt: &R, load: Load) -> Result<u64, Failure>
 where
     R: Wait + RandomSource + AllocGlobal,
 {
-    carried(rt, Web, load)
+    carried(rt, web(rt.alloc())?, load)
 }
 
 // Does what is measured. How many bytes were written on connections that came back.
