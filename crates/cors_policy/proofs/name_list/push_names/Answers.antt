@@ -1,4 +1,4 @@
-use Rattle.std.proofs.Common.{◌++◌, ◌∷◌, [], take, sym, ap, ◌∙◌}
+use Rattle.std.proofs.Common.{◌++◌, ◌∷◌, [], take, take_all, sym, ap, ◌∙◌}
 use Rattle.std.specs.Prelude.{codes}
 use Rattle.std.proofs.lemmas.List.{take_more}
 use Rattle.cors_rules.specs.Sets.{joined}
@@ -16,3 +16,6 @@ loop-name-preserved c =
     ∙ sym (joined_more c.args.text.now name (take i names))
     ∙ ap (λ ns. joined (c.args.text.now ∷ ns))
     (ap (λ n. take i names ++ n ∷ []) c.name-item.is ∙ sym (take_more names i name c.loop-name-test.true))
+
+pub returns : goal.returns
+returns c = c.loop-name.invariant ∙ ap (λ ns. joined (c.args.text.now ∷ ns)) (take_all c.loop-name.name-index c.args.names.now c.loop-name-test.false)
