@@ -1,3 +1,4 @@
+pub mod Folds
 pub mod PolicySteps
 pub mod CopySteps
 pub mod Ready

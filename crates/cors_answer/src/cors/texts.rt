@@ -130,7 +130,6 @@ impl<G: OriginRule> Cors<G> {
     }
 
     // Each of them, in order.
-    #[tactic(auto, using(std::proofs::lemmas::List::Sums::fold_more))]
     fn add_methods(&mut self, methods: &[&str]) -> Result<(), AllocError>
         ensures { OnOk result (self.new ≡ and_methods self.old (map (λ text. text.now) methods.now)) }
     {
