@@ -1,4 +1,5 @@
 pub mod Folds
 pub mod PolicySteps
+pub mod Calls
 pub mod CopySteps
 pub mod Ready
