@@ -5,5 +5,6 @@ pub mod Lines
 pub mod Numbers
 pub mod Offered
 pub mod Texts
+pub mod PolicyTexts
 pub mod Plainness
 pub mod Ranges

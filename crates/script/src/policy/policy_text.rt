@@ -62,7 +62,6 @@ fn some_words(alloc: Global, text: &[u8]) -> Result<Option<PlainText>, AllocErro
 }
 
 // One name or origin, which is the rest of the line.
-#[tactic(auto, using(crate::proofs::Plainness::plain_rest, std::proofs::lemmas::List::take_rest))]
 fn text_line(alloc: Global, line: &[u8]) -> Result<Option<PolicyLine>, AllocError>
     requires { list_all is_plain line.now ≡ true }
     ensures { IfOk result (λ said. said ≡ text_line line.now) }
@@ -77,7 +76,6 @@ fn text_line(alloc: Global, line: &[u8]) -> Result<Option<PolicyLine>, AllocErro
 }
 
 // One or more words.
-#[tactic(auto, using(crate::proofs::Plainness::plain_rest, std::proofs::lemmas::List::take_rest))]
 fn words_line(alloc: Global, line: &[u8]) -> Result<Option<PolicyLine>, AllocError>
     requires { list_all is_plain line.now ≡ true }
     ensures { IfOk result (λ said. said ≡ words_line line.now) }
@@ -89,7 +87,6 @@ fn words_line(alloc: Global, line: &[u8]) -> Result<Option<PolicyLine>, AllocErr
 }
 
 // One or more names of headers.
-#[tactic(auto, using(crate::proofs::Plainness::plain_rest, std::proofs::lemmas::List::take_rest))]
 fn names_line(alloc: Global, line: &[u8]) -> Result<Option<PolicyLine>, AllocError>
     requires { list_all is_plain line.now ≡ true }
     ensures { IfOk result (λ said. said ≡ names_line line.now) }
@@ -101,7 +98,6 @@ fn names_line(alloc: Global, line: &[u8]) -> Result<Option<PolicyLine>, AllocErr
 }
 
 // One or more names of response headers.
-#[tactic(auto, using(crate::proofs::Plainness::plain_rest, std::proofs::lemmas::List::take_rest))]
 fn exposed_line(alloc: Global, line: &[u8]) -> Result<Option<PolicyLine>, AllocError>
     requires { list_all is_plain line.now ≡ true }
     ensures { IfOk result (λ said. said ≡ exposed_line line.now) }
