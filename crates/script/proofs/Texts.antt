@@ -1,5 +1,5 @@
 -- One byte of a text more.
-use Rattle.std.proofs.Common.{◌≡◌, ◌≢◌, ◌==◌, ℕ, false, List, [], ◌∷◌, ◌++◌, Option, Some, None, refl, sym, ◌∙◌, ap, append_assoc, arith, ◌≤◌, length, drop, take, ◌-◌, get_or}
+use Rattle.std.proofs.Common.{◌≡◌, ◌≢◌, ◌==◌, ◌<◌, ℕ, false, List, [], ◌∷◌, ◌++◌, Option, Some, None, refl, sym, ◌∙◌, ap, append_assoc, arith, ◌≤◌, length, drop, take, ◌-◌, get_or}
 use Rattle.std.proofs.lemmas.List.{take_rest}
 use Rattle.std.specs.Option.{option_map}
 use Rattle.std.proofs.lemmas.Bool.Decides.{nat_tests}
@@ -84,3 +84,41 @@ module _ (text : Option (List ℕ)) (bytes more : List ℕ) (rest : List ℕ) (b
       → text ≡ option_map (λ others. more ++ others) (text_bytes (behind_first 2 (behind_first 1 (behind_first 1 rest))))
   after_hex some one two backslash letter is = hex_step text bytes more rest (behind_first 2 (behind_first 1 (behind_first 1 rest))) byte so_far pushed (behind_first 1 rest) (behind_first 1 (behind_first 1 rest))
       (take_rest rest 1) (take_rest (behind_first 1 rest) 1) (take_rest (behind_first 1 (behind_first 1 rest)) 2) some one two backslash letter (sym is)
+
+-- a backslash with no escape behind it
+module _ (text : Option (List ℕ)) (bytes rest : List ℕ) (so_far : text ≡ option_map (λ others. bytes ++ others) (text_bytes rest)) where
+  none_then : text_bytes rest ≡ None → None ≡ text
+  none_then none = sym (so_far ∙ ap (option_map (λ others. bytes ++ others)) none)
+
+  pub no_letter : 1 ≤ length rest → length (behind_first 1 rest) < 1 → get_or rest 0 0 ≡ 92 → None ≡ text
+  no_letter some few backslash = none_then (alone rest (behind_first 1 rest) (take_rest rest 1) some few backslash)
+    where
+      alone : (rest after : List ℕ) → after ≡ drop 1 rest → 1 ≤ length rest → length after < 1 → get_or rest 0 0 ≡ 92 → text_bytes rest ≡ None
+      alone [] after behind some few backslash = absurd (omega arith)
+      alone (b ∷ others) (c ∷ after) behind some few backslash = absurd (omega arith)
+      alone (b ∷ others) [] behind some few backslash = let all : b ∷ others ≡ 92 ∷ [] = cc in ap text_bytes all
+
+  pub no_digits : 1 ≤ length rest → 1 ≤ length (behind_first 1 rest) → length (behind_first 1 (behind_first 1 rest)) < 2 → get_or rest 0 0 ≡ 92 → get_or (behind_first 1 rest) 0 0 ≡ 120
+      → None ≡ text
+  no_digits some one few backslash letter =
+      none_then (cut rest (behind_first 1 rest) (behind_first 1 (behind_first 1 rest)) (take_rest rest 1) (take_rest (behind_first 1 rest) 1) some one few backslash letter)
+    where
+      cut : (rest after digits : List ℕ) → after ≡ drop 1 rest → digits ≡ drop 1 after → 1 ≤ length rest → 1 ≤ length after → length digits < 2 → get_or rest 0 0 ≡ 92 → get_or after 0 0 ≡ 120
+          → text_bytes rest ≡ None
+      cut [] after digits behind second some one few backslash letter = absurd (omega arith)
+      cut (b ∷ others) [] digits behind second some one few backslash letter = absurd (omega arith)
+      cut (b ∷ others) (c ∷ after) [] behind second some one few backslash letter = let all : b ∷ others ≡ 92 ∷ 120 ∷ [] = cc in ap text_bytes all
+      cut (b ∷ others) (c ∷ after) (d ∷ []) behind second some one few backslash letter = let all : b ∷ others ≡ 92 ∷ 120 ∷ d ∷ [] = cc in ap text_bytes all
+      cut (b ∷ others) (c ∷ after) (d ∷ e ∷ digits) behind second some one few backslash letter = absurd (omega arith)
+
+  pub no_escape : 1 ≤ length rest → 1 ≤ length (behind_first 1 rest) → get_or rest 0 0 ≡ 92 → get_or (behind_first 1 rest) 0 0 ≢ 120
+      → None ≡ escaped (get_or (behind_first 1 rest) 0 0) → None ≡ text
+  no_escape some one backslash letter is = none_then (other rest (behind_first 1 rest) (take_rest rest 1) some one backslash letter is)
+    where
+      other : (rest after : List ℕ) → after ≡ drop 1 rest → 1 ≤ length rest → 1 ≤ length after → get_or rest 0 0 ≡ 92 → get_or after 0 0 ≢ 120 → None ≡ escaped (get_or after 0 0)
+          → text_bytes rest ≡ None
+      other [] after behind some one backslash letter is = absurd (omega arith)
+      other (b ∷ others) [] behind some one backslash letter is = absurd (omega arith)
+      other (b ∷ others) (c ∷ after) behind some one backslash letter is =
+          let all : b ∷ others ≡ 92 ∷ c ∷ after = cc in
+          ap text_bytes all ∙ text_escaped c after letter ∙ ap (λ told. before told (text_bytes after)) (sym is)
