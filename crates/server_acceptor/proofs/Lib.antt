@@ -1,3 +1,4 @@
+pub mod AcceptSteps
 pub mod AskDoes
 pub mod AskSteps
 pub mod BesideSteps

@@ -1,4 +1,5 @@
-use Rattle.std.proofs.Common.{◌≡◌, ◌<◌, ◌++◌, length, refl, arith}
+use Rattle.std.proofs.Common.{◌≡◌, ◌<◌, ◌++◌, length, refl, ◌∙◌, arith}
+use Rattle.std.proofs.Math.ListN.{length-set}
 use Rattle.rtrb.specs.Ring.{IsPair, known_items, received, sent}
 use Rattle.server_acceptor.proofs.BesideSteps.{if_there, received_same, still_pair, was_there}
 use Rattle.server_acceptor.proofs.Handed.{looked_acts}
@@ -25,3 +26,11 @@ returns-clause-pair g c =
     let pair = was_there (λ r. IsPair c.args.notes.now r) c.args.self.now.notes.items c.args.w c.index_mut.result.now inside c.index_mut.ensures.value c.requires.from_it in
     if_there (λ r. IsPair c.slots_beside.new.producer r) c.args.self.now.notes.items c.args.w c.slots_beside.new.self inside
     (still_pair c.args.notes.now c.slots_beside.new.producer c.index_mut.result.now c.slots_beside.new.self pair c.slots_beside.ensures.producer.0 c.slots_beside.ensures.looked.0)
+
+pub slots_beside-requires : goal.slots_beside-requires
+slots_beside-requires g c =
+    let inside : c.args.w < length c.args.self.now.notes.items = omega (arith, c.requires.number, c.args.self.now.workers.1) in
+    was_there (λ r. IsPair c.args.notes.now r) c.args.self.now.notes.items c.args.w c.index_mut.result.now inside c.index_mut.ensures.value c.requires.from_it
+
+pub invariant_of-self-clause-workers : goal.invariant_of-self-clause-workers
+invariant_of-self-clause-workers g c = let w = c.args.self.now.workers in (w.0, length-set c.args.self.now.notes.items c.args.w c.slots_beside.new.self ∙ w.1, w.2, w.3)

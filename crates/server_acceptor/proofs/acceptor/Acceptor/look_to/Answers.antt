@@ -1,8 +1,11 @@
 use Rattle.std.proofs.Common.{◌<◌, length, refl, sym, ◌∙◌, arith, inl}
+use Rattle.std.proofs.Math.ListN.{length-set}
 use Rattle.rtrb.specs.Ring.{IsPair}
 use Rattle.server_acceptor.proofs.BesideSteps.{if_there, sent_there, still_pair, was_there}
 use Rattle.server_acceptor.proofs.PlaceSteps.{keeps_sent}
+use Rattle.server_acceptor.proofs.Sendings.{are_sent_kept}
 use Rattle.server_acceptor.proofs.StopSteps.{stop_acts}
+use Rattle.server_jobs.specs.Parcels.{is_force, is_stop}
 use Rattle.server_acceptor.proofs.acceptor.Acceptor.look_to.Goals as goal
 
 pub returns-clause-acts : goal.returns-clause-acts
@@ -29,3 +32,23 @@ returns-clause-pair g c =
     let pair = was_there (λ p. IsPair p c.args.parcels.now) c.args.self.now.parcels.items c.args.w c.index_mut.result.now inside c.index_mut.ensures.value c.requires.to_it in
     if_there (λ p. IsPair p c.slots_beside.new.self) c.args.self.now.parcels.items c.args.w c.slots_beside.new.producer inside
     (still_pair c.index_mut.result.now c.slots_beside.new.producer c.args.parcels.now c.slots_beside.new.self pair c.slots_beside.ensures.producer.0 c.slots_beside.ensures.looked.0)
+
+pub slots_beside-requires : goal.slots_beside-requires
+slots_beside-requires g c =
+    let inside : c.args.w < length c.args.self.now.parcels.items = omega (arith, c.requires.number, c.args.self.now.workers.0) in
+    was_there (λ p. IsPair p c.args.parcels.now) c.args.self.now.parcels.items c.args.w c.index_mut.result.now inside c.index_mut.ensures.value c.requires.to_it
+
+pub invariant_of-self-clause-stopped_sent : goal.invariant_of-self-clause-stopped_sent
+invariant_of-self-clause-stopped_sent g c =
+    let looked = c.slots_beside.ensures.producer in
+    are_sent_kept c.args.self.now.parcels.items _ is_stop c.args.self.now.stopped.items
+    (keeps_sent c.args.self.now.parcels.items c.args.w c.index_mut.result.now c.slots_beside.new.producer c.index_mut.ensures.value looked.0 looked.1) c.args.self.now.stopped_sent
+
+pub invariant_of-self-clause-forced_sent : goal.invariant_of-self-clause-forced_sent
+invariant_of-self-clause-forced_sent g c =
+    let looked = c.slots_beside.ensures.producer in
+    are_sent_kept c.args.self.now.parcels.items _ is_force c.args.self.now.forced.items
+    (keeps_sent c.args.self.now.parcels.items c.args.w c.index_mut.result.now c.slots_beside.new.producer c.index_mut.ensures.value looked.0 looked.1) c.args.self.now.forced_sent
+
+pub invariant_of-self-clause-workers : goal.invariant_of-self-clause-workers
+invariant_of-self-clause-workers g c = let w = c.args.self.now.workers in (length-set c.args.self.now.parcels.items c.args.w c.slots_beside.new.producer ∙ w.0, w.1, w.2, w.3)
