@@ -24,6 +24,7 @@ pub mod PlacedDoes
 pub mod RoomSteps
 pub mod Rotating
 pub mod Sendings
+pub mod StepKinds
 pub mod StopSteps
 pub mod TakeSteps
 pub mod Taking

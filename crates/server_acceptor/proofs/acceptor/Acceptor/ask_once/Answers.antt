@@ -7,11 +7,11 @@ use Rattle.server_acceptor.specs.Asking.{ComesTo}
 use Rattle.server_acceptor.specs.declared.acceptor.Acceptor.{Acceptor}
 use Rattle.server_acceptor.specs.declared.asked.Asked.{Asked}
 use Rattle.server_acceptor.specs.declared.asked.Asked.TheVariants.{Ended, Failed, NotYet}
-use Rattle.server_acceptor.specs.declared.step.Step.TheVariants.{Halted, On, Settled, WorkerEnded}
 use Rattle.server_acceptor.specs.Listening.{NeverFall}
 use Rattle.server_acceptor.proofs.DoesSteps.{fault_after}
 use Rattle.server_acceptor.proofs.OnceSteps.{failures_then, once_asked, once_asks, once_placed, once_proceeds, open_then}
 use Rattle.server_acceptor.proofs.RoomSteps.{room_asks_none, room_proceeds}
+use Rattle.server_acceptor.proofs.StepKinds.{halted_not_ended, halted_not_on, halted_not_settled, on_not_ended, on_not_halted, on_not_settled, settled_not_ended, settled_not_halted, settled_not_on}
 use Rattle.server_acceptor.proofs.acceptor.Acceptor.ask_once.Goals as goal
 
 comes_settled : {Li L : Type 0} (given waits skips : Li → ℕ) (l m : List Li) (a b : Acceptor L) (t now : ℕ) (r : Asked) → (r ≡ NotYet) ⊎ ((r ≡ Failed) ⊎ (r ≡ Ended)) → ComesTo given waits skips l m a b t now r
@@ -22,33 +22,6 @@ comes_settled given waits skips l m a b t now r (inr (inr is)) comes = subst (λ
 
 never_none : {Li : Type 0} (waits skips : Li → ℕ) (l : List Li) (t : ℕ) → NeverFall waits skips l l t
 never_none waits skips l t = record { waited = omega arith; skipped = omega arith }
-
-halted_not_on : Halted ≡ On → ⊥
-halted_not_on e = cc
-
-halted_not_settled : Halted ≡ Settled → ⊥
-halted_not_settled e = cc
-
-halted_not_ended : (w : ℕ) → Halted ≡ WorkerEnded w → ⊥
-halted_not_ended w e = cc
-
-on_not_settled : On ≡ Settled → ⊥
-on_not_settled e = cc
-
-on_not_halted : On ≡ Halted → ⊥
-on_not_halted e = cc
-
-on_not_ended : (w : ℕ) → On ≡ WorkerEnded w → ⊥
-on_not_ended w e = cc
-
-settled_not_on : Settled ≡ On → ⊥
-settled_not_on e = cc
-
-settled_not_halted : Settled ≡ Halted → ⊥
-settled_not_halted e = cc
-
-settled_not_ended : (w : ℕ) → Settled ≡ WorkerEnded w → ⊥
-settled_not_ended w e = cc
 
 pub returns-then-not-has_room-clause-proceeds : goal.returns-then-not-has_room-clause-proceeds
 returns-then-not-has_room-clause-proceeds g c = room_proceeds g.Li.Listener.given g.Li.Listener.left g.Li.Listener.rest g.L.Link.identity g.Li.Listener.ended g.Li.Listener.faults g.Do.Done.taken g.Do.Done.count g.Do.Done.served _ c.args.self.now c.has_room.new.self c.args.done.now c.has_room.new.done
