@@ -1,6 +1,8 @@
 use Rattle.std.proofs.Common.{◌+◌, refl, ap, arith, inl, inr}
 use Rattle.server_acceptor.proofs.DoesSteps.{fault_after, proceeds_none, proceeds_trans}
 use Rattle.server_acceptor.proofs.OutSteps.{asks_within, to_asks, to_more, to_none, to_order, to_rests}
+use Rattle.std.specs.Prelude.{is_some}
+use Rattle.server_acceptor.proofs.StepKinds.{settled_not_ended, settled_not_halted, settled_not_on}
 use Rattle.server_acceptor.proofs.acceptor.Acceptor.ask_from.Goals as goal
 
 pub loop-t-init : goal.loop-t-init
@@ -61,3 +63,45 @@ returns-clause-order g c t u above less below = inr (c.loop-t.invariant.asked.ou
 
 pub returns-clause-settled : goal.returns-clause-settled
 returns-clause-settled g c is = (c.loop-t.invariant.may, λ t above below. c.loop-t.invariant.asked.outs t above (omega (arith, below, c.loop-t-test.false)))
+
+pub returns-in_default-clause-given : goal.returns-in_default-clause-given
+returns-in_default-clause-given g c = c.ask_out.ensures.given
+
+pub returns-in_default-clause-spare : goal.returns-in_default-clause-spare
+returns-in_default-clause-spare g c = c.ask_out.ensures.spare
+
+pub returns-in_default-clause-refusals : goal.returns-in_default-clause-refusals
+returns-in_default-clause-refusals g c = c.ask_out.ensures.refusals
+
+pub returns-in_default-clause-on : goal.returns-in_default-clause-on
+returns-in_default-clause-on g c = c.ask_out.ensures.on
+
+pub returns-in_default-clause-halted : goal.returns-in_default-clause-halted
+returns-in_default-clause-halted g c = c.ask_out.ensures.halted
+
+pub returns-in_default-clause-settled : goal.returns-in_default-clause-settled
+returns-in_default-clause-settled g c = λ is. absurd (c.in_default.not-Settled is)
+
+pub returns-clause-given : goal.returns-clause-given
+returns-clause-given g c = c.loop-t.invariant.given
+
+pub returns-clause-spare : goal.returns-clause-spare
+returns-clause-spare g c = c.loop-t.invariant.spare
+
+pub returns-clause-proceeds : goal.returns-clause-proceeds
+returns-clause-proceeds g c = c.loop-t.invariant.proceeds
+
+pub returns-clause-rests : goal.returns-clause-rests
+returns-clause-rests g c = c.loop-t.invariant.asked.rests
+
+pub returns-clause-refusals : goal.returns-clause-refusals
+returns-clause-refusals g c = ap is_some c.loop-t.invariant.may.unrefused
+
+pub returns-clause-on : goal.returns-clause-on
+returns-clause-on g c = λ is. absurd (settled_not_on is)
+
+pub returns-clause-halted : goal.returns-clause-halted
+returns-clause-halted g c = λ is. absurd (settled_not_halted is)
+
+pub returns-clause-ended : goal.returns-clause-ended
+returns-clause-ended g c w = λ is. absurd (settled_not_ended w is)

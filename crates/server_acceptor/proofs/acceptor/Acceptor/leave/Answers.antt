@@ -1,4 +1,4 @@
-use Rattle.std.proofs.Common.{[], ◌∷◌, refl, ap, rules}
+use Rattle.std.proofs.Common.{[], ◌∷◌, refl, ap, rules, sym, ◌∙◌, length, true≢false}
 use Rattle.server_core.specs.Core.{Core}
 use Rattle.server_core.specs.declared.event.Event.TheVariants.{Faulted}
 use Rattle.server_acceptor.proofs.DoesSteps.{acts_none}
@@ -27,3 +27,56 @@ invariant_of-self-clause-patient g c = patient_kept c.args.self.now.core c.step.
 
 pub returns-clause-others : goal.returns-clause-others
 returns-clause-others g c v off = off_still c.args.self.now.core c.step.new.self c.args.w v (search rules) c.step.ensures.value off
+
+pub returns-then-not-allows-clause-parcels : goal.returns-then-not-allows-clause-parcels
+returns-then-not-allows-clause-parcels g c = refl
+
+pub returns-then-not-allows-clause-notes : goal.returns-then-not-allows-clause-notes
+returns-then-not-allows-clause-notes g c = refl
+
+pub returns-then-not-allows-clause-waiting : goal.returns-then-not-allows-clause-waiting
+returns-then-not-allows-clause-waiting g c = refl
+
+pub returns-clause-parcels : goal.returns-clause-parcels
+returns-clause-parcels g c = refl
+
+pub returns-clause-notes : goal.returns-clause-notes
+returns-clause-notes g c = refl
+
+pub returns-clause-waiting : goal.returns-clause-waiting
+returns-clause-waiting g c = refl
+
+pub returns-then-not-allows-clause-rest : goal.returns-then-not-allows-clause-rest
+returns-then-not-allows-clause-rest g c = record { paused = refl; stopping = refl; stop = refl; shutdown_timeout = refl; places = refl; serial = refl; ready = refl; stopped = refl; forced = refl; failed = refl; first = refl; events = refl; sent = refl; listeners = refl; workers = refl; limit = refl; retry_limit = refl; lacks_room = refl }
+
+pub returns-clause-rest : goal.returns-clause-rest
+returns-clause-rest g c =
+    let is = c.step.ensures.value in
+    record { paused = ap (λ (s : Core). s.paused) is; stopping = ap (λ (s : Core). s.stopping) is; stop = refl; shutdown_timeout = refl; places = refl; serial = refl; ready = refl; stopped = refl; forced = refl; failed = refl; first = refl; events = refl; sent = refl; listeners = ap (λ (s : Core). length s.ended) is; workers = ap (λ (s : Core). length s.out) is; limit = refl; retry_limit = refl; lacks_room = refl }
+
+pub returns-then-not-allows-clause-faulted : goal.returns-then-not-allows-clause-faulted
+returns-then-not-allows-clause-faulted g c = λ yes. absurd (true≢false (sym yes ∙ sym c.allows.ensures ∙ c.if-not-allows.true))
+
+pub returns-then-not-allows-clause-same : goal.returns-then-not-allows-clause-same
+returns-then-not-allows-clause-same g c = λ _. refl
+
+pub returns-then-not-allows-clause-others : goal.returns-then-not-allows-clause-others
+returns-then-not-allows-clause-others g c v = λ is. is
+
+pub returns-then-not-allows-clause-retired : goal.returns-then-not-allows-clause-retired
+returns-then-not-allows-clause-retired g c = refl
+
+pub returns-clause-retired : goal.returns-clause-retired
+returns-clause-retired g c = ap (λ (s : Core). s.retired) c.step.ensures.value
+
+pub returns-then-not-allows-clause-out : goal.returns-then-not-allows-clause-out
+returns-then-not-allows-clause-out g c = refl
+
+pub returns-clause-out : goal.returns-clause-out
+returns-clause-out g c = ap (λ (s : Core). s.out) c.step.ensures.value
+
+pub returns-clause-faulted : goal.returns-clause-faulted
+returns-clause-faulted g c = λ _. c.step.ensures.value
+
+pub returns-clause-same : goal.returns-clause-same
+returns-clause-same g c = λ no. absurd (true≢false (sym c.if-not-allows.false ∙ c.allows.ensures ∙ no))
