@@ -1,4 +1,4 @@
-use Rattle.std.proofs.Common.{◌<◌, ◌++◌, ◌∷◌, [], sym, ◌∙◌, ap, append_assoc, arith, rules}
+use Rattle.std.proofs.Common.{◌<◌, ◌++◌, ◌∷◌, [], sym, ◌∙◌, ap, append_assoc, arith, rules, refl, subst, ◌+◌, nat_lt}
 use Rattle.std.specs.Prelude.{slice_index, sum}
 use Rattle.std.proofs.Math.ListN.{length-set}
 use Rattle.server_core.specs.Core.{Core, step}
@@ -15,7 +15,7 @@ overflow_add-remains g c =
     omega (arith, small, c.out.ensures)
 
 pub invariant_of-self-clause-rule : goal.invariant_of-self-clause-rule
-invariant_of-self-clause-rule g c = ruled_after_sent c.args.self.now.core _ _ c.args.w _ c.args.self.now.rule c.log.ensures.core (search rules) c.requires.free c.requires.number
+invariant_of-self-clause-rule g c = ruled_after_sent c.args.self.now.core _ _ c.args.w _ c.args.self.now.rule c.log.ensures.core (ap (λ n. nat_lt (n + 1) c.args.self.now.limit) c.out.ensures) c.requires.free c.requires.number
 
 pub invariant_of-self-clause-workers : goal.invariant_of-self-clause-workers
 invariant_of-self-clause-workers g c =
@@ -35,11 +35,11 @@ invariant_of-self-in-Err-Full-clause-workers g c =
 
 pub returns-in-Ok-clause-sent : goal.returns-in-Ok-clause-sent
 returns-in-Ok-clause-sent g c = λ _. record {
-  stays = search rules;
-  waiting = search rules;
+  stays = record { notes = refl; ready = refl; stopped = refl; forced = refl; stop = refl; serial = refl; places = refl; failed = refl; first = refl; limit = refl; retry_limit = refl; shutdown_timeout = refl; lacks_room = refl };
+  waiting = c.take.ensures.after;
   placed = c.in-Some.waiting;
-  was = search rules;
-  rings = puts_at _ c.args.w c.index_mut.result.now c.push.new.self _ (search rules) c.index_mut.ensures.value c.push.ensures.ring (search rules);
+  was = sym c.take.ensures.value ∙ c.in-Some.is;
+  rings = puts_at _ c.args.w c.index_mut.result.now c.push.new.self _ (subst (λ n. c.args.w < n) (sym c.args.self.now.workers.0) c.requires.number) c.index_mut.ensures.value c.push.ensures.ring c.in-Ok.ensures.ok.0;
   others = λ v other has. no_place_other _ c.args.w v c.push.new.self other has;
   remains = _;
   core = c.log.ensures.core;
@@ -48,11 +48,11 @@ returns-in-Ok-clause-sent g c = λ _. record {
 
 pub returns-in-Err-Full-clause-refused : goal.returns-in-Err-Full-clause-refused
 returns-in-Err-Full-clause-refused g c = λ _. record {
-  stays = search rules;
-  waiting = c.waiting_of.ensures ∙ back_again _ c.in-Some.waiting c.args.self.now.waiting (search rules) (search rules);
-  rings = keeps_sent _ c.args.w c.index_mut.result.now c.push.new.self c.index_mut.ensures.value c.push.ensures.ring (search rules);
-  no_place = no_place_at _ c.args.w c.push.new.self (search rules) (search rules);
-  others = no_place_still _ c.args.w c.push.new.self (search rules) (search rules);
+  stays = record { notes = refl; ready = refl; stopped = refl; forced = refl; stop = refl; serial = refl; places = refl; failed = refl; first = refl; limit = refl; retry_limit = refl; shutdown_timeout = refl; lacks_room = refl };
+  waiting = c.waiting_of.ensures ∙ back_again _ c.in-Some.waiting c.args.self.now.waiting (search rules) (sym c.take.ensures.value ∙ c.in-Some.is);
+  rings = keeps_sent _ c.args.w c.index_mut.result.now c.push.new.self c.index_mut.ensures.value c.push.ensures.ring c.in-Err-Full.ensures.full.1;
+  no_place = no_place_at _ c.args.w c.push.new.self (subst (λ n. c.args.w < n) (sym c.args.self.now.workers.0) c.requires.number) c.in-Err-Full.ensures.full.2;
+  others = no_place_still _ c.args.w c.push.new.self (subst (λ n. c.args.w < n) (sym c.args.self.now.workers.0) c.requires.number) c.in-Err-Full.ensures.full.2;
   core = c.log-in-Err-Full-2.ensures.core ∙ ap (λ s. step s (Notice c.args.w)) c.log-in-Err-Full.ensures.core;
   events = c.log-in-Err-Full-2.ensures.events ∙ ap (λ es. es ++ Notice c.args.w ∷ []) c.log-in-Err-Full.ensures.events ∙ append_assoc c.args.self.now.events.items (RingFull c.args.w ∷ []) (Notice c.args.w ∷ []);
 }
@@ -73,16 +73,16 @@ overflow_add-self g c = omega (arith, c.args.self.now.out_counted, out_fits _ c.
 
 pub invariant_of-self-clause-forced_sent : goal.invariant_of-self-clause-forced_sent
 invariant_of-self-clause-forced_sent g c = are_sent_put c.args.self.now.parcels.items _ is_force c.args.self.now.forced.items c.args.w (parcel_of c.in-Some.waiting)
-    (puts_at _ c.args.w c.index_mut.result.now c.push.new.self (parcel_of c.in-Some.waiting) (search rules) c.index_mut.ensures.value c.push.ensures.ring (search rules)) c.args.self.now.forced_sent
+    (puts_at _ c.args.w c.index_mut.result.now c.push.new.self (parcel_of c.in-Some.waiting) (subst (λ n. c.args.w < n) (sym c.args.self.now.workers.0) c.requires.number) c.index_mut.ensures.value c.push.ensures.ring c.in-Ok.ensures.ok.0) c.args.self.now.forced_sent
 
 pub invariant_of-self-in-Err-Full-clause-forced_sent : goal.invariant_of-self-in-Err-Full-clause-forced_sent
 invariant_of-self-in-Err-Full-clause-forced_sent g c = are_sent_kept c.args.self.now.parcels.items _ is_force c.args.self.now.forced.items
-    (keeps_sent _ c.args.w c.index_mut.result.now c.push.new.self c.index_mut.ensures.value c.push.ensures.ring (search rules)) c.args.self.now.forced_sent
+    (keeps_sent _ c.args.w c.index_mut.result.now c.push.new.self c.index_mut.ensures.value c.push.ensures.ring c.in-Err-Full.ensures.full.1) c.args.self.now.forced_sent
 
 pub invariant_of-self-clause-stopped_sent : goal.invariant_of-self-clause-stopped_sent
 invariant_of-self-clause-stopped_sent g c = are_sent_put c.args.self.now.parcels.items _ is_stop c.args.self.now.stopped.items c.args.w (parcel_of c.in-Some.waiting)
-    (puts_at _ c.args.w c.index_mut.result.now c.push.new.self (parcel_of c.in-Some.waiting) (search rules) c.index_mut.ensures.value c.push.ensures.ring (search rules)) c.args.self.now.stopped_sent
+    (puts_at _ c.args.w c.index_mut.result.now c.push.new.self (parcel_of c.in-Some.waiting) (subst (λ n. c.args.w < n) (sym c.args.self.now.workers.0) c.requires.number) c.index_mut.ensures.value c.push.ensures.ring c.in-Ok.ensures.ok.0) c.args.self.now.stopped_sent
 
 pub invariant_of-self-in-Err-Full-clause-stopped_sent : goal.invariant_of-self-in-Err-Full-clause-stopped_sent
 invariant_of-self-in-Err-Full-clause-stopped_sent g c = are_sent_kept c.args.self.now.parcels.items _ is_stop c.args.self.now.stopped.items
-    (keeps_sent _ c.args.w c.index_mut.result.now c.push.new.self c.index_mut.ensures.value c.push.ensures.ring (search rules)) c.args.self.now.stopped_sent
+    (keeps_sent _ c.args.w c.index_mut.result.now c.push.new.self c.index_mut.ensures.value c.push.ensures.ring c.in-Err-Full.ensures.full.1) c.args.self.now.stopped_sent

@@ -1,4 +1,4 @@
-use Rattle.std.proofs.Common.{◌<◌, length, true, false, inl, inr, refl, sym, ◌∙◌, arith, rules}
+use Rattle.std.proofs.Common.{◌<◌, length, true, false, inl, inr, refl, sym, ◌∙◌, arith, rules, true≢false}
 use Rattle.std.proofs.lemmas.List.{get_or_default}
 use Rattle.std.proofs.Math.ListN.{length-set}
 use Rattle.server_acceptor.proofs.Sendings.{are_sent_marked, forced_now, stop_of_force, stopped_now}
@@ -42,3 +42,21 @@ invariant_of-self-2-clause-as_many_forced g c = length-set c.push_stop.new.self.
 
 pub invariant_of-self-clause-workers : goal.invariant_of-self-clause-workers
 invariant_of-self-clause-workers g c = let w = c.args.self.now.workers in (w.0, w.1, w.2, length-set c.args.self.now.stopped.items c.args.w true ∙ w.3)
+
+pub returns-then-index-clause-only : goal.returns-then-index-clause-only
+returns-then-index-clause-only g c = record { core = refl; events = refl; notes = refl; ready = refl; waiting = refl; serial = refl; places = refl; failed = refl; first = refl; limit = refl; retry_limit = refl; shutdown_timeout = refl; lacks_room = refl; stop = refl }
+
+pub returns-then-index-clause-lacks : goal.returns-then-index-clause-lacks
+returns-then-index-clause-lacks g c = λ is. absurd (true≢false is)
+
+pub returns-then-not-push_stop-clause-only : goal.returns-then-not-push_stop-clause-only
+returns-then-not-push_stop-clause-only g c = c.push_stop.ensures.only
+
+pub returns-then-not-push_stop-clause-got : goal.returns-then-not-push_stop-clause-got
+returns-then-not-push_stop-clause-got g c = λ is. absurd (true≢false (sym is))
+
+pub returns-clause-only : goal.returns-clause-only
+returns-clause-only g c = let o = c.push_stop.ensures.only in record { core = o.core; events = o.events; notes = o.notes; ready = o.ready; waiting = o.waiting; serial = o.serial; places = o.places; failed = o.failed; first = o.first; limit = o.limit; retry_limit = o.retry_limit; shutdown_timeout = o.shutdown_timeout; lacks_room = o.lacks_room; stop = o.stop }
+
+pub returns-clause-lacks : goal.returns-clause-lacks
+returns-clause-lacks g c = λ is. absurd (true≢false is)

@@ -1,4 +1,4 @@
-use Rattle.std.proofs.Common.{true, inl, inr, refl, ◌∙◌, rules}
+use Rattle.std.proofs.Common.{true, inl, inr, refl, ◌∙◌, rules, sym, true≢false}
 use Rattle.server_jobs.specs.declared.parcel.Parcel.TheVariants.{Stop}
 use Rattle.std.proofs.Math.ListN.{length-set}
 use Rattle.server_acceptor.proofs.Sendings.{are_sent_marked, forced_kept, forced_put, stopped_now}
@@ -32,3 +32,30 @@ invariant_of-self-clause-stopped_sent g c = are_sent_marked c.push_stop.new.self
 
 pub invariant_of-self-clause-workers : goal.invariant_of-self-clause-workers
 invariant_of-self-clause-workers g c = let w = c.push_stop.new.self.workers in (w.0, w.1, w.2, length-set c.push_stop.new.self.stopped.items c.args.w true ∙ w.3)
+
+pub returns-then-index-clause-only : goal.returns-then-index-clause-only
+returns-then-index-clause-only g c = stops_none c.args.self.now
+
+pub returns-then-index-clause-forces : goal.returns-then-index-clause-forces
+returns-then-index-clause-forces g c = λ v is. is
+
+pub returns-then-index-clause-others : goal.returns-then-index-clause-others
+returns-then-index-clause-others g c = λ v got. got
+
+pub returns-then-index-clause-still : goal.returns-then-index-clause-still
+returns-then-index-clause-still g c = λ v other lacks. lacks
+
+pub returns-then-index-clause-lacks : goal.returns-then-index-clause-lacks
+returns-then-index-clause-lacks g c = λ is. absurd (true≢false is)
+
+pub returns-then-not-push_stop-clause-only : goal.returns-then-not-push_stop-clause-only
+returns-then-not-push_stop-clause-only g c = c.push_stop.ensures.only
+
+pub returns-then-not-push_stop-clause-got : goal.returns-then-not-push_stop-clause-got
+returns-then-not-push_stop-clause-got g c = λ is. absurd (true≢false (sym is))
+
+pub returns-clause-only : goal.returns-clause-only
+returns-clause-only g c = let o = c.push_stop.ensures.only in record { core = o.core; events = o.events; notes = o.notes; ready = o.ready; waiting = o.waiting; serial = o.serial; places = o.places; failed = o.failed; first = o.first; limit = o.limit; retry_limit = o.retry_limit; shutdown_timeout = o.shutdown_timeout; lacks_room = o.lacks_room; stop = o.stop }
+
+pub returns-clause-lacks : goal.returns-clause-lacks
+returns-clause-lacks g c = λ is. absurd (true≢false is)

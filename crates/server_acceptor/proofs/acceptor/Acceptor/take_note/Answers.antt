@@ -1,5 +1,5 @@
-use Rattle.std.proofs.Common.{◌<◌, [], true, refl, ◌∙◌, ap, arith, length}
-use Rattle.std.specs.Prelude.{is_some}
+use Rattle.std.proofs.Common.{◌<◌, [], true, refl, ◌∙◌, ap, arith, length, true≢false, ℕ, ◌+◌, ◌≤◌}
+use Rattle.std.specs.Prelude.{is_some, vec_len}
 use Rattle.std.proofs.Math.ListN.{length-set}
 use Rattle.std.proofs.lemmas.List.Elements.{All-nil}
 use Rattle.server_acceptor.proofs.Giving.{adds_none}
@@ -11,6 +11,9 @@ use Rattle.server_acceptor.proofs.LogSteps.{logs_none}
 use Rattle.server_acceptor.proofs.NoteSteps.{fewer_known}
 use Rattle.server_acceptor.proofs.Taking.{all_marked, backs_more, count_as_none, has_still, marked_now, not_all_before, one_note, out_elsewhere, received_more, received_this, told_still}
 use Rattle.server_acceptor.proofs.acceptor.Acceptor.take_note.Goals as goal
+
+two_more : (n : ℕ) → n ≤ n + 2
+two_more n = omega arith
 
 pub take-requires : goal.take-requires
 take-requires g c = out_some c.args.self.now.core.out c.args.w _ _ c.requires.number (out_at_back c.args.self.now.notes.items c.args.w _ _ c.index_mut.result.now c.pop_known.result _ c.in-Back.entry (omega (arith, c.requires.number, c.args.self.now.workers.1)) c.index_mut.ensures.value c.pop_known.ensures.received.1 c.in-Back.is c.requires.may) c.requires.spare
@@ -157,3 +160,30 @@ invariant_of-self-clause-workers g c =
 
 pub lower-requires-clause-out : goal.lower-requires-clause-out
 lower-requires-clause-out g c = out_at_back c.args.self.now.notes.items c.args.w _ _ c.index_mut.result.now c.pop_known.result _ c.in-Back.entry (omega (arith, c.requires.number, c.args.self.now.workers.1)) c.index_mut.ensures.value c.pop_known.ensures.received.1 c.in-Back.is c.requires.may
+
+pub returns-in-Ready-clause-logs : goal.returns-in-Ready-clause-logs
+returns-in-Ready-clause-logs g c = logs_none
+
+pub returns-in-Ready-clause-room : goal.returns-in-Ready-clause-room
+returns-in-Ready-clause-room g c = two_more (vec_len c.args.self.now.events)
+
+pub returns-in-Ready-clause-spare : goal.returns-in-Ready-clause-spare
+returns-in-Ready-clause-spare g c = c.requires.spare
+
+pub returns-in-Faulted-clause-logs : goal.returns-in-Faulted-clause-logs
+returns-in-Faulted-clause-logs g c = logs_none
+
+pub returns-in-Faulted-clause-room : goal.returns-in-Faulted-clause-room
+returns-in-Faulted-clause-room g c = two_more (vec_len c.args.self.now.events)
+
+pub returns-in-Faulted-clause-spare : goal.returns-in-Faulted-clause-spare
+returns-in-Faulted-clause-spare g c = c.requires.spare
+
+pub returns-in-Back-clause-room : goal.returns-in-Back-clause-room
+returns-in-Back-clause-room g c = c.lower.ensures.room
+
+pub returns-in-Ready-clause-faulted : goal.returns-in-Ready-clause-faulted
+returns-in-Ready-clause-faulted g c = λ is. absurd (true≢false is)
+
+pub returns-in-Back-clause-faulted : goal.returns-in-Back-clause-faulted
+returns-in-Back-clause-faulted g c = λ is. absurd (true≢false is)
