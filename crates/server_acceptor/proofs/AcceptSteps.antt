@@ -1,12 +1,12 @@
 -- That what one accept at a listener does is seen in the list of all listeners.
-use Rattle.std.proofs.Common.{◌≡◌, ◌≢◌, ◌<◌, ◌≤◌, ◌+◌, ◌^◌, ◌∷◌, [], ℕ, zero, suc, Bool, List, length, get_or, set, Option, Some, IfSome, refl, sym, ◌∙◌, ap, ap₂, arith, subst, get_or-set_same}
+use Rattle.std.proofs.Common.{◌≡◌, ◌≢◌, ◌<◌, ◌≤◌, ◌+◌, ◌^◌, ◌∷◌, [], ℕ, zero, suc, Bool, List, length, get_or, set, Option, Some, IfSome, refl, sym, ◌∙◌, ap, arith, subst, get_or-set_same}
 use Rattle.std.specs.Prelude.{◌↔◌, IsTrue, slice_get}
-use Rattle.std.specs.Option.{option_and_then, option_map, option_map_or}
+use Rattle.std.specs.Option.{option_and_then, option_map_or}
 use Rattle.std.proofs.Math.ListN.{length-set}
 use Rattle.std.proofs.lemmas.Option.{slice_get-get_or}
 use Rattle.service_core.specs.Counts.{Rose}
 use Rattle.server_run.specs.Delivery.{HasEnded, given_at, left_at, rest_at}
-use Rattle.server_run.specs.Listener.{IsMarked, IsTakenFrom, Mark, OnGot, Rises, gives, fails}
+use Rattle.server_run.specs.Listener.{IsMarked, IsTakenFrom, Mark, OnGot, Rises}
 use Rattle.server_run.specs.declared.listener.Accepted.{Accepted}
 use Rattle.server_run.specs.declared.listener.Accepted.TheVariants.{Got, NotYet, Skipped, Failed, Ended}
 use Rattle.server_acceptor.specs.Listening.{AsksAt, GivesNone, Listens, NeverFall}

@@ -1,4 +1,4 @@
-use Rattle.std.proofs.Common.{◌≡◌, ◌≤◌, ◌⊎◌, ◌+◌, ℕ, List, Option, Some, [], inl, inr, refl, sym, ◌∙◌, ap, arith, subst}
+use Rattle.std.proofs.Common.{◌≡◌, ◌≤◌, ◌⊎◌, ◌+◌, ℕ, List, inl, inr, sym, ◌∙◌, ap, arith, subst}
 use Rattle.std.specs.Prelude.{count_by, is_some, slice_index_or}
 use Rattle.server_run.specs.Delivery.{given_at}
 use Rattle.server_acceptor.specs.Accepting.{HasSettled, MayAsk, is_failed}
