@@ -1,14 +1,15 @@
 -- The making of the first services was begun.
-use Rattle.std.proofs.Common.{◌≡◌, zero, suc, ℕ, ◌++◌, ◌∷◌, [], List, length, replicate, get_or, IfSome, slice_get, refl, true, false, true≢false, Result, Ok, Err, sym, ◌∙◌, arith, subst}
+use Rattle.std.proofs.Common.{◌≡◌, zero, suc, ℕ, ◌++◌, ◌∷◌, [], List, length, replicate, get_or, IfSome, slice_get, refl, ap, true, false, true≢false, Result, Ok, Err, sym, ◌∙◌, arith, subst}
 use Rattle.service_core.specs.Making.{Makes}
 use Rattle.service_core.specs.Meaning.{Readiness}
 use Rattle.service_core.specs.declared.ended.Ended.{Ended}
 use Rattle.service_core.specs.declared.service.Service.{Ghosts as ServiceOf}
 use Rattle.service_core.specs.declared.service_factory.ServiceFactory.{Ghosts as FactoryOf}
-use Rattle.worker_core.specs.WorkerCore.{new_worker, status_of}
+use Rattle.worker_core.specs.WorkerCore.{Worker, new_worker, status_of}
 use Rattle.worker_core.specs.declared.service_status.ServiceStatus.TheVariants.{Unavailable}
 use Rattle.server_run.specs.Creating.{Creates}
 use Rattle.server_run.proofs.Standing.{stands_made}
+use Rattle.std.proofs.lemmas.List.{length-replicate}
 use Rattle.std.proofs.lemmas.List.Elements.{All-nil}
 use Rattle.futures.specs.declared.future.Future.{Ghosts as FutureOf}
 use Rattle.rtrb.specs.Ring.{received}
@@ -77,3 +78,6 @@ works_new fg mg sg g may_stand may_serve may_leave may_ready may_init may_make s
   made = λ all. absurd (let e : true ≡ false = sym all ∙ made in cc);
   told = λ is. absurd (let e : true ≡ false = sym is ∙ fresh.told in cc);
 }
+
+pub new_many : (n m : ℕ) (w : Worker) → m ≡ n → w ≡ new_worker n → m ≡ length w.services
+new_many n m w many is = many ∙ sym (ap (λ v. length v.services) is ∙ length-replicate n Unavailable)

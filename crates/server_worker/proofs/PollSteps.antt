@@ -1,8 +1,8 @@
 -- One live connection more is polled.
-use Rattle.std.proofs.Common.{◌≡◌, false, true≢false, ◌<◌, ℕ, ◌+◌, [], ◌∷◌, ◌++◌, length, take, drop, set, get_or, sum_by, Contains, Result, refl, sym, ◌∙◌, ap, arith, subst}
+use Rattle.std.proofs.Common.{◌≡◌, false, true≢false, ◌<◌, ◌≤◌, ℕ, ◌+◌, List, [], ◌∷◌, ◌++◌, length, take, drop, set, get_or, sum_by, Contains, Result, refl, sym, ◌∙◌, ap, arith, subst}
 use Rattle.std.specs.List.{swap_remove}
 use Rattle.std.proofs.Math.ListN.{length-set}
-use Rattle.std.proofs.lemmas.List.{take-set, drop_all}
+use Rattle.std.proofs.lemmas.List.{take-set, drop_all, get_or-set_same}
 use Rattle.std.proofs.lemmas.List.Sums.{sum_by_more, sum_by_push, sum_by-take-drop}
 use Rattle.std.proofs.lemmas.List.Elements.{All-set, All-get_or, All-push}
 use Rattle.futures.specs.declared.future.Future.{Ghosts as FutureOf}
@@ -24,6 +24,12 @@ use Rattle.server_jobs.specs.declared.parcel.Parcel.TheVariants.{Conn}
 use Rattle.server_jobs.specs.declared.note.Note.TheVariants.{Back}
 use Rattle.server_worker.proofs.StopWords.{forced_stopped}
 use Rattle.server_worker.proofs.Places.{all_removed, length_removed, removed_before, removed_set, sum_from_removed, sum_from_set}
+
+pub more_within : (at n : ℕ) → at + 1 ≤ n → at < n
+more_within at n within = omega (arith, within)
+
+pub reads_set : {X : Type 0} (xs : List X) (n : ℕ) (x : X) → n < length xs → x ≡ get_or (set xs n x) n x
+reads_set xs n x inside = sym (get_or-set_same xs n x x inside)
 
 -- none was polled yet
 pub polled_none : {L E Fut : Type 0} (g : FutureOf Fut (Result (Ended L) E)) (may_stand : Fut → L → Type 0) (may_serve : ℕ → L → Ended L → Type 0) (may_leave : ℕ → L → L → Type 0)

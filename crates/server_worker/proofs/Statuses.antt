@@ -190,6 +190,9 @@ module _ {Fut S E : Type 0} where
       → fits (status_of w token) new ≡ true → (t : ℕ) → fits_at (status_of w t) (slice_get (set slots token new) t) ≡ true
   fits_still slots w token new fit inside here = fits_set slots w w token new fit inside (λ t other. inl refl) here
 
+pub listens : (token n m : ℕ) → token < n → n ≡ m → token < m
+listens token n m inside many = subst (λ k. token < k) many inside
+
 pub may_ask : {Fut S E : Type 0} (slots : List (Slot Fut S E)) (w : Worker) (token : ℕ) → ((t : ℕ) → fits_at (status_of w t) (slice_get slots t) ≡ true) → token < length w.services → IsStanding (slice_get slots token)
     → w.draining ≡ false → w.left ≡ false → MayAsk w token
 may_ask slots w token fit listens stands not_draining not_left = record {
