@@ -1,4 +1,4 @@
-use Rattle.std.proofs.Common.{◌≡◌, ap, length, rules, true, false, true≢false, vec_len, sym, ◌∙◌, subst}
+use Rattle.std.proofs.Common.{◌≡◌, ap, length, true, false, true≢false, vec_len, sym, ◌∙◌, subst}
 use Rattle.server_worker.specs.Turn.{ComesTo}
 use Rattle.server_worker.proofs.StopTurns.{back_accounts, back_gives_up, back_no_ready, back_polls, back_returns, back_tells, back_unforced}
 use Rattle.server_worker.proofs.TurnSteps.{works_served}
