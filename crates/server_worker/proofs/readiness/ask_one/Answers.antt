@@ -1,14 +1,13 @@
-use Rattle.std.proofs.Common.{vec_len, ◌≡◌, Some, IfSome, true≢false, sym, subst, length, slice_get, ap, ◌∙◌, rules}
+use Rattle.std.proofs.Common.{◌≡◌, Some, IfSome, true≢false, sym, subst, length, slice_get, ap, ◌∙◌, rules}
 use Rattle.std.proofs.Math.ListN.{length-set}
 use Rattle.worker_core.specs.declared.ready_answer.ReadyAnswer.TheVariants as answer
-use Rattle.server_worker.specs.Checking.{IsStanding}
 use Rattle.server_worker.specs.Standing.{IsMade, IsSlot}
 use Rattle.server_worker.specs.declared.slot.Slot.TheVariants.{Failed}
-use Rattle.server_worker.proofs.AdmitSteps.{not_standing, of_slot_at}
+use Rattle.server_worker.proofs.AdmitSteps.{of_slot_at}
 use Rattle.server_worker.proofs.AskSteps.{checks_asked}
 use Rattle.server_worker.proofs.Lists.{slice_get-set_other, slice_get-set_same}
-use Rattle.server_worker.proofs.RemakeSteps.{read_there, standing_made}
-use Rattle.server_worker.proofs.Statuses.{listens, answer_stays}
+use Rattle.server_worker.proofs.RemakeSteps.{standing_made}
+use Rattle.server_worker.proofs.Statuses.{answer_stays}
 use Rattle.server_worker.proofs.readiness.ask_one.Goals as goal
 
 pub returns-in-Ready-Ok-clause-checks : goal.returns-in-Ready-Ok-clause-checks
@@ -108,14 +107,3 @@ fail-requires-clause-inside g c = c.requires.inside
 
 pub fail-requires-clause-stands : goal.fail-requires-clause-stands
 fail-requires-clause-stands g c = c.requires.stands
-
-pub unreachable-requires : goal.unreachable-requires
-unreachable-requires g c = absurd (not_standing c.index.result.now c.in_default.not-Made (subst (λ o. IsStanding o) (read_there c.args.services.now.slots.items c.args.token c.index.result.now c.requires.inside c.index.ensures) c.requires.stands))
-
-pub ask-requires : goal.ask-requires
-ask-requires g c =
-    let was = of_slot_at (IsSlot g.F.Factory.Future.Future g.F.Factory.Service.Service g.F.Factory.Service.Future.LinkHolder.may_stand (g.F.ServerServiceFactory.may_serve c.args.factory.now c.args.token) (g.F.ServerServiceFactory.may_leave c.args.factory.now c.args.token) (g.F.ServerServiceFactory.may_ready c.args.factory.now c.args.token) (g.F.ServerServiceFactory.may_init c.args.factory.now c.args.token) (g.F.ServerServiceFactory.may_make c.args.factory.now c.args.token)) c.args.services.now.slots.items c.args.token c.index.result.now c.requires.inside c.index.ensures c.requires.slot in
-    record { stands = (rw c.in-Made.is at was).1 }
-
-pub index-requires : goal.index-requires
-index-requires g c = listens c.args.token (length c.args.services.now.slots.items) (vec_len c.args.services.now.slots) c.requires.inside (sym c.args.services.now.slots.ok.0)

@@ -1,8 +1,8 @@
-use Rattle.std.proofs.Common.{◌<◌, refl, sym, ap, ◌∙◌, subst, length, vec_len}
+use Rattle.std.proofs.Common.{◌<◌, refl, sym, ap, ◌∙◌, subst}
 use Rattle.worker_core.specs.Statuses.{is_asked, is_restarting}
 use Rattle.worker_core.specs.WorkerCore.{status_of}
 use Rattle.server_worker.proofs.RemakeSteps.{checks_begun, checks_later, down_there, remaking_there, standing_there}
-use Rattle.server_worker.proofs.Statuses.{is_next, listens}
+use Rattle.server_worker.proofs.Statuses.{is_next}
 use Rattle.server_worker.proofs.readiness.check_one.Goals as goal
 
 pub ask_one-requires-clause-inside : goal.ask_one-requires-clause-inside
@@ -201,6 +201,3 @@ returns-in-Remaking-clause-factories g c = c.remake_one-in-Remaking.ensures.fact
 
 pub returns-in-Remaking-clause-kept : goal.returns-in-Remaking-clause-kept
 returns-in-Remaking-clause-kept g c = c.remake_one-in-Remaking.ensures.kept
-
-pub index-requires : goal.index-requires
-index-requires g c = listens c.args.token (length c.args.services.now.slots.items) (vec_len c.args.services.now.slots) c.requires.inside (sym c.args.services.now.slots.ok.0)

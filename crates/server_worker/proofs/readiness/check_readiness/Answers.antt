@@ -55,27 +55,3 @@ returns-in-Refused-clause-factories g c = c.check_one.ensures.factories ∙ c.lo
 
 pub returns-in-Refused-clause-kept : goal.returns-in-Refused-clause-kept
 returns-in-Refused-clause-kept g c fact holds = c.check_one.ensures.kept fact (c.loop-token.invariant.5 fact holds)
-
-pub returns-in-Refused-clause-checks : goal.returns-in-Refused-clause-checks
-returns-in-Refused-clause-checks g c = tt
-
-pub returns-in-Refused-clause-slots : goal.returns-in-Refused-clause-slots
-returns-in-Refused-clause-slots g c = tt
-
-pub returns-in-Refused-clause-armed : goal.returns-in-Refused-clause-armed
-returns-in-Refused-clause-armed g c = tt
-
-pub returns-clause-all_made : goal.returns-clause-all_made
-returns-clause-all_made g c = c.loop-token.invariant.2
-
-pub returns-clause-as_many : goal.returns-clause-as_many
-returns-clause-as_many g c = c.loop-token.invariant.0.as_many
-
-pub returns-clause-made : goal.returns-clause-made
-returns-clause-made g c = c.loop-token.invariant.3
-
-pub returns-clause-factories : goal.returns-clause-factories
-returns-clause-factories g c = c.loop-token.invariant.4
-
-pub returns-clause-fault : goal.returns-clause-fault
-returns-clause-fault g c = tt

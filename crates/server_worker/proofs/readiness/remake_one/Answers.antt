@@ -1,4 +1,4 @@
-use Rattle.std.proofs.Common.{vec_len, ◌≡◌, length, slice_get, Some, IfSome, Err, refl, sym, ap, ◌∙◌, subst}
+use Rattle.std.proofs.Common.{◌≡◌, length, slice_get, Some, IfSome, Err, refl, sym, ap, ◌∙◌, subst}
 use Rattle.std.proofs.Math.ListN.{length-set}
 use Rattle.futures.specs.declared.task.Poll.TheVariants.{Ready as PollReady}
 use Rattle.server_worker.specs.Checking.{IsRemaking}
@@ -7,7 +7,6 @@ use Rattle.server_worker.specs.declared.slot.Slot.TheVariants.{Made, Remaking}
 use Rattle.server_worker.proofs.AskSteps.{checks_remade}
 use Rattle.server_worker.proofs.Lists.{slice_get-set_other, slice_get-set_same}
 use Rattle.server_worker.proofs.RemakeSteps.{as_many_twice, checks_polled, fits_given_up, fits_polled, here_twice, inside_set, made_again, may_be_polled, not_remaking, others_twice, read_again, read_remaking, read_there, refused_again, slot_polled}
-use Rattle.server_worker.proofs.Statuses.{listens}
 use Rattle.server_worker.proofs.readiness.remake_one.Goals as goal
 
 pub unreachable-requires : goal.unreachable-requires
@@ -154,9 +153,3 @@ returns-in-Remaking-replace-clause-factories g c = refl
 
 pub returns-in-Remaking-replace-clause-kept : goal.returns-in-Remaking-replace-clause-kept
 returns-in-Remaking-replace-clause-kept g c = c.poll.ensures.kept
-
-pub index_mut-requires : goal.index_mut-requires
-index_mut-requires g c = listens c.args.token (length c.args.services.now.slots.items) (vec_len c.args.services.now.slots) c.requires.inside (sym c.args.services.now.slots.ok.0)
-
-pub index_mut-requires-in-Ready-Err : goal.index_mut-requires-in-Ready-Err
-index_mut-requires-in-Ready-Err g c = listens c.args.token (length c.args.services.now.slots.items) (vec_len c.args.services.now.slots) c.requires.inside (sym c.args.services.now.slots.ok.0)

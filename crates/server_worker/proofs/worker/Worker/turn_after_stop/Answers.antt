@@ -1,8 +1,7 @@
-use Rattle.std.proofs.Common.{◌≡◌, ap, length, true, false, true≢false, vec_len, sym, ◌∙◌, subst}
+use Rattle.std.proofs.Common.{ap, true, false, true≢false, vec_len, sym, ◌∙◌, subst}
 use Rattle.server_worker.specs.Turn.{ComesTo}
 use Rattle.server_worker.proofs.StopTurns.{back_accounts, back_gives_up, back_no_ready, back_polls, back_returns, back_tells, back_unforced}
 use Rattle.server_worker.proofs.TurnSteps.{works_served}
-use Rattle.server_worker.proofs.WorkSteps.{sound_of_many}
 use Rattle.server_worker.proofs.worker.Worker.turn_after_stop.Goals as goal
 
 pub returns-then-self-clause-accounts : goal.returns-then-self-clause-accounts
@@ -132,22 +131,3 @@ returns-clause-total g c _ = c.serve_live.ensures.total
 
 pub returns-clause-kept : goal.returns-clause-kept
 returns-clause-kept g c = c.serve_live.ensures.kept
-
-pub return_waiting-requires : goal.return_waiting-requires
-return_waiting-requires g c =
-    let many : c.len.result ≡ length c.args.self.now.services.slots.items = c.len.ensures ∙ c.args.self.now.services.slots.ok.0 in
-    record { stopped = c.requires.stopped; sound = sound_of_many g.F.Factory.ServiceFactory g.F.Factory.Future.Future g.F.Factory.Service.Service g.F.Factory.Service.Future.Future g.F.Factory.Service.Future.LinkHolder.may_stand (g.F.ServerServiceFactory.may_serve c.args.self.now.factory) (g.F.ServerServiceFactory.may_leave c.args.self.now.factory) (g.F.ServerServiceFactory.may_ready c.args.self.now.factory) (g.F.ServerServiceFactory.may_init c.args.self.now.factory) (g.F.ServerServiceFactory.may_make c.args.self.now.factory) c.args.self.now.hand (length c.args.self.now.services.slots.items) c.len.result many c.requires.works.connections }
-
-pub give_up-requires : goal.give_up-requires
-give_up-requires g c =
-    let many : c.len.result ≡ length c.args.self.now.services.slots.items = c.len.ensures ∙ c.args.self.now.services.slots.ok.0 in
-    record {
-      stopped = c.return_waiting.ensures.gives.stopped ∙ c.requires.stopped;
-      forced = c.if-self.true;
-      sound = sound_of_many g.F.Factory.ServiceFactory g.F.Factory.Future.Future g.F.Factory.Service.Service g.F.Factory.Service.Future.Future g.F.Factory.Service.Future.LinkHolder.may_stand (g.F.ServerServiceFactory.may_serve c.args.self.now.factory) (g.F.ServerServiceFactory.may_leave c.args.self.now.factory) (g.F.ServerServiceFactory.may_ready c.args.self.now.factory) (g.F.ServerServiceFactory.may_init c.args.self.now.factory) (g.F.ServerServiceFactory.may_make c.args.self.now.factory) c.return_waiting.new.hand c.len.result (length c.args.self.now.services.slots.items) (sym many) c.return_waiting.ensures.sound;
-    }
-
-pub serve_live-requires : goal.serve_live-requires
-serve_live-requires g c =
-    let many : c.len.result ≡ length c.args.self.now.services.slots.items = c.len.ensures ∙ c.args.self.now.services.slots.ok.0 in
-    record { sound = sound_of_many g.F.Factory.ServiceFactory g.F.Factory.Future.Future g.F.Factory.Service.Service g.F.Factory.Service.Future.Future g.F.Factory.Service.Future.LinkHolder.may_stand (g.F.ServerServiceFactory.may_serve c.args.self.now.factory) (g.F.ServerServiceFactory.may_leave c.args.self.now.factory) (g.F.ServerServiceFactory.may_ready c.args.self.now.factory) (g.F.ServerServiceFactory.may_init c.args.self.now.factory) (g.F.ServerServiceFactory.may_make c.args.self.now.factory) c.return_waiting.new.hand c.len.result (length c.args.self.now.services.slots.items) (sym many) c.return_waiting.ensures.sound }
