@@ -1,5 +1,5 @@
 -- What a turn comes to, step by step.
-use Rattle.std.proofs.Common.{◌≡◌, ◌<◌, ◌⊎◌, ◌++◌, ℕ, Bool, true, false, true≢false, List, length, Option, None, Some, Result, Err, slice_get, sym, ap, ◌∙◌, subst, inl, inr}
+use Rattle.std.proofs.Common.{◌≡◌, ◌≢◌, ◌<◌, ◌⊎◌, ◌++◌, ℕ, Bool, true, false, true≢false, List, length, Option, None, Some, Result, Err, slice_get, refl, sym, ap, ◌∙◌, subst, inl, inr}
 use Rattle.std.specs.Prelude.{cond}
 use Rattle.futures.specs.Task.{Keeps}
 use Rattle.futures.specs.declared.future.Future.{Ghosts as FutureOf}
@@ -18,7 +18,7 @@ use Rattle.server_worker.specs.Asking.{ChecksUpTo}
 use Rattle.server_worker.specs.Changes.{HasChanged, HasYielded}
 use Rattle.server_worker.specs.Sound.{IsSound, Tells}
 use Rattle.server_worker.specs.Standing.{AreFactories, AreSlots, AtSlot, HasErred, IsMade, MadeOrWaits, StillMaking, making_waits}
-use Rattle.server_worker.specs.Turn.{ComesTo, IsFaulted, Works}
+use Rattle.server_worker.specs.Turn.{ComesTo, IsFaulted, IsGoing, Works}
 use Rattle.server_worker.specs.declared.connections.Connections.{Connections}
 use Rattle.server_worker.specs.declared.services.Services.{Services}
 use Rattle.server_worker.specs.declared.slot.Slot.{Slot}
@@ -50,6 +50,19 @@ comes_unfaulted stopped forced total all Short comes fault = fault
 comes_unfaulted stopped forced total all (Left none_held) comes fault = fault
 comes_unfaulted stopped forced total all (Unstarted token error) comes fault = fault
 comes_unfaulted stopped forced total all (Faulted token readiness error) comes fault = comes
+
+pub comes_started : {E I : Type 0} (stopped forced : Bool) (total : ℕ) (all : Bool) (turned : Turned E I) → ComesTo stopped forced total all turned → (token : ℕ) (error : I) → turned ≡ Unstarted token error → ⊥
+comes_started stopped forced total all turned comes token error is = subst (λ r. ComesTo stopped forced total all r) is comes
+
+pub comes_whole : {E I : Type 0} (stopped forced : Bool) (total : ℕ) (all : Bool) (turned : Turned E I) → ComesTo stopped forced total all turned → (token : ℕ) (readiness : E) (error : I) → turned ≡ Faulted token readiness error → ⊥
+comes_whole stopped forced total all turned comes token readiness error is = subst (λ r. ComesTo stopped forced total all r) is comes
+
+pub comes_stays : {E I : Type 0} (forced : Bool) (total : ℕ) (all : Bool) (turned : Turned E I) → ComesTo true forced total all turned → IsGoing turned → (total ≢ 0) × (forced ≡ false)
+comes_stays forced total all Going comes going = comes.1 refl
+comes_stays forced total all Short comes going = comes.1 refl
+comes_stays forced total all (Left none_held) comes going = absurd going
+comes_stays forced total all (Unstarted token error) comes going = absurd going
+comes_stays forced total all (Faulted token readiness error) comes going = absurd going
 
 -- it did not change
 pub unchanged : (a b : Worker) (token : ℕ) → b ≡ a → HasChanged a b token → ⊥

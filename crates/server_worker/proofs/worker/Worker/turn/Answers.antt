@@ -4,7 +4,7 @@ use Rattle.server_worker.proofs.AskSteps.{checks_going, checks_stopped}
 use Rattle.server_worker.proofs.ServeSteps.{turn_no_ready}
 use Rattle.server_worker.proofs.StopTurns.{taken_gives_up, taken_polls, taken_ready, taken_returns, taken_tells, taken_told}
 use Rattle.server_worker.proofs.TakeSteps.{queues_taken, receives_taken}
-use Rattle.server_worker.proofs.TurnSteps.{unchanged}
+use Rattle.server_worker.proofs.TurnSteps.{comes_started, comes_stays, comes_unfaulted, comes_whole, unchanged}
 use Rattle.server_worker.proofs.WorkSteps.{works_taken}
 use Rattle.server_worker.proofs.worker.Worker.turn.Goals as goal
 
@@ -153,3 +153,27 @@ returns-then-self-clause-ready_told g c going unstopped made = absurd (true≢fa
 
 pub returns-then-self-clause-armed : goal.returns-then-self-clause-armed
 returns-then-self-clause-armed g c _ token changed = absurd (unchanged c.args.self.now.services.core _ token c.turn_after_stop.ensures.core changed)
+
+pub turn_after_stop-requires-clause-stopped : goal.turn_after_stop-requires-clause-stopped
+turn_after_stop-requires-clause-stopped g c = c.if-self.true
+
+pub turn_on-requires-clause-unstopped : goal.turn_on-requires-clause-unstopped
+turn_on-requires-clause-unstopped g c = c.if-self.false
+
+pub returns-then-self-clause-unstarted : goal.returns-then-self-clause-unstarted
+returns-then-self-clause-unstarted g c token error is = absurd (comes_started true _ _ _ c.turn_after_stop.result c.turn_after_stop.ensures.comes token error is)
+
+pub returns-then-self-clause-untold : goal.returns-then-self-clause-untold
+returns-then-self-clause-untold g c token error is = absurd (comes_started true _ _ _ c.turn_after_stop.result c.turn_after_stop.ensures.comes token error is)
+
+pub returns-then-self-clause-faulted : goal.returns-then-self-clause-faulted
+returns-then-self-clause-faulted g c token readiness error is = absurd (comes_whole true _ _ _ c.turn_after_stop.result c.turn_after_stop.ensures.comes token readiness error is)
+
+pub returns-then-self-clause-unpolled : goal.returns-then-self-clause-unpolled
+returns-then-self-clause-unpolled g c fault = absurd (comes_unfaulted true _ _ _ c.turn_after_stop.result c.turn_after_stop.ensures.comes fault)
+
+pub returns-then-self-clause-total : goal.returns-then-self-clause-total
+returns-then-self-clause-total g c is = c.turn_after_stop.ensures.total (sym c.turn_after_stop.ensures.forced ∙ is)
+
+pub returns-then-self-clause-stays : goal.returns-then-self-clause-stays
+returns-then-self-clause-stays g c going _ = (let it = comes_stays _ _ _ c.turn_after_stop.result c.turn_after_stop.ensures.comes going in (it.0, c.turn_after_stop.ensures.forced ∙ it.1))
