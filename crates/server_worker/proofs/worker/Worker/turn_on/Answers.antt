@@ -3,7 +3,7 @@ use Rattle.worker_core.specs.WorkerCore.{state_of}
 use Rattle.server_worker.specs.Changes.{HasChanged}
 use Rattle.server_worker.specs.Polled.{Admits}
 use Rattle.server_worker.specs.Standing.{AllMade}
-use Rattle.server_worker.specs.Turn.{ComesTo}
+use Rattle.server_worker.specs.Turn.{ComesTo, IsFaulted, IsGoing}
 use Rattle.server_worker.proofs.AdmitSteps.{admits_same}
 use Rattle.server_worker.proofs.AskSteps.{checks_unmade, is_unset}
 use Rattle.server_worker.proofs.ServeSteps.{turn_accounts, turn_no_ready, turn_polls, turn_ready, turn_stops}
@@ -123,10 +123,10 @@ pub returns-in-Some-clause-forced : goal.returns-in-Some-clause-forced
 returns-in-Some-clause-forced g c = c.serve_live.ensures.forced
 
 pub returns-in-Some-clause-all : goal.returns-in-Some-clause-all
-returns-in-Some-clause-all g c is = absurd (cc)
+returns-in-Some-clause-all g c is = absurd (subst (λ r. IsGoing r) (sym is) tt)
 
 pub returns-in-Some-clause-short : goal.returns-in-Some-clause-short
-returns-in-Some-clause-short g c is = absurd (cc)
+returns-in-Some-clause-short g c is = absurd (subst (λ r. IsGoing r) (sym is) tt)
 
 pub returns-in-Some-clause-total : goal.returns-in-Some-clause-total
 returns-in-Some-clause-total g c = c.serve_live.ensures.total
@@ -135,7 +135,7 @@ pub returns-in-Some-clause-left : goal.returns-in-Some-clause-left
 returns-in-Some-clause-left g c b is = cc
 
 pub returns-in-Some-clause-faulted : goal.returns-in-Some-clause-faulted
-returns-in-Some-clause-faulted g c token readiness error is = absurd (cc)
+returns-in-Some-clause-faulted g c token readiness error is = absurd (subst (λ r. IsFaulted r) (sym is) tt)
 
 pub returns-in-Some-clause-kept : goal.returns-in-Some-clause-kept
 returns-in-Some-clause-kept g c fact holds = c.serve_live.ensures.kept fact (c.in-Some.ensures.kept fact holds)
@@ -198,10 +198,10 @@ pub returns-in-Some-check-clause-forced : goal.returns-in-Some-check-clause-forc
 returns-in-Some-check-clause-forced g c = c.hand_back.ensures.forced ∙ ap (λ h. h.forced) c.check.ensures.hand ∙ c.tell_ready.ensures.owes.forced
 
 pub returns-in-Some-check-clause-all : goal.returns-in-Some-check-clause-all
-returns-in-Some-check-clause-all g c is = absurd (cc)
+returns-in-Some-check-clause-all g c is = absurd (subst (λ r. IsGoing r) (sym is) tt)
 
 pub returns-in-Some-check-clause-short : goal.returns-in-Some-check-clause-short
-returns-in-Some-check-clause-short g c is = absurd (cc)
+returns-in-Some-check-clause-short g c is = absurd (subst (λ r. IsGoing r) (sym is) tt)
 
 pub returns-in-Some-check-clause-total : goal.returns-in-Some-check-clause-total
 returns-in-Some-check-clause-total g c = c.hand_back.ensures.total
@@ -210,10 +210,10 @@ pub returns-in-Some-check-clause-left : goal.returns-in-Some-check-clause-left
 returns-in-Some-check-clause-left g c b is = cc
 
 pub returns-in-Some-check-clause-unstarted : goal.returns-in-Some-check-clause-unstarted
-returns-in-Some-check-clause-unstarted g c token error is = absurd (cc)
+returns-in-Some-check-clause-unstarted g c token error is = absurd (subst (λ r. IsFaulted r) is tt)
 
 pub returns-in-Some-check-clause-untold : goal.returns-in-Some-check-clause-untold
-returns-in-Some-check-clause-untold g c token error is = absurd (cc)
+returns-in-Some-check-clause-untold g c token error is = absurd (subst (λ r. IsFaulted r) is tt)
 
 pub returns-in-Some-check-clause-faulted : goal.returns-in-Some-check-clause-faulted
 returns-in-Some-check-clause-faulted g c token readiness error is =
