@@ -106,8 +106,9 @@ impl<F> Server<F> {
         ensures before { OnErr result (Untouched Li.given Li.left Do.taken Do.count Do.served listeners.old.items listeners.new.items done.old done.new) }
 
         // Each connection that the listeners gave was handed to `done`, exactly once and with its link, as a service of its
-        // listener's token ended it, or, after a stop alone, as it stood; by force only after one that was not graceful, or once
-        // the time of a graceful one was over. One is lost, and no worker is left, only where services may fault.
+        // listener's token ended it, or as it stood, after a stop, for want of memory or of a worker; by force only after a stop
+        // that was not graceful, or once the time of a graceful one was over. One is lost, and no worker is left, only where
+        // services may fault.
         ensures serves { IfOk result (λ report. ServesInTime Li.given Li.left Li.Link.identity (F.may_serve (factory_of self)) (F.may_leave (factory_of self)) Do.taken Do.count Do.served listeners.old.items listeners.new.items done.old done.new (server_settings self).workers (MayFault (F.may_ready (factory_of self)) (F.may_init (factory_of self)) (vec_len listeners.old)) report.end
             (Cl.told clock.old + 1000 * (server_settings self).shutdown_timeout ≤ Cl.told clock.new)) }
 
