@@ -38,8 +38,9 @@ sys.dont_write_bytecode = True
 work, log, names = sys.argv[1], sys.argv[2], sys.argv[3:]
 command = os.path.realpath(shutil.which("rt"))
 # (a kit that keeps nothing has no `--anew`: each run of its `rt ci` is from nothing)
-if "--anew" not in open(command).read():
-    names = [it for it in names if it != "--anew"]
+if "--anew" in names and "--anew" not in open(command).read():
+    print("the kit's rt knows no --anew, and so its rt ci is taken to keep nothing", file=sys.stderr)
+    names.remove("--anew")
 loader = importlib.machinery.SourceFileLoader("rt_command", command)
 rt = importlib.util.module_from_spec(importlib.util.spec_from_loader("rt_command", loader))
 loader.exec_module(rt)

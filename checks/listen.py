@@ -125,7 +125,8 @@ def at_one_address():
 
 def stopped_by_a_request():
     folder = os.path.join(TOP, "crates", "example_stop")
-    subprocess.run([os.path.join(TOP, "checks", "built.sh"), "example_stop"], capture_output=True)
+    built = subprocess.run([os.path.join(TOP, "checks", "built.sh"), "example_stop"], capture_output=True, text=True)
+    check("the program that a request stops is built", built.returncode in (0, 2), built.stderr[-500:])
     port = free_port()
     command = [os.path.join(folder, "out", "example_stop"), f"127.0.0.1:{port}"]
     with subprocess.Popen(command, stdin=subprocess.DEVNULL, stdout=subprocess.PIPE, text=True) as program:

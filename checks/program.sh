@@ -75,8 +75,9 @@ for script in "$top"/checks/cases/*.script; do
     fi
 done
 # What is said on standard error.
-mkdir -p "$work/bare/crates/dongurapi/src"
+mkdir -p "$work/bare/crates/dongurapi/src" "$work/bare/checks"
 cp "$top/dongurapi" "$top/crates.txt" "$work/bare"
+cp "$top/checks/sources.sh" "$work/bare/checks"
 built=$("$top/dongurapi" --version 2>&1 > /dev/null)
 reason=$("$top/dongurapi" listen nowhere 1 2>&1 > /dev/null)
 bare=$("$work/bare/dongurapi" listen 127.0.0.1:0 1 2>&1)

@@ -22,15 +22,17 @@ add_with_those_below() {
     crates+=("$1")
 }
 
-# Whether a program stands, and nothing that it is built of is newer: the kit, crates.txt, and the files and folders of the
-# crates that were added.
+# Whether a program stands, and nothing that it is built of is newer, by the times of files: crates.txt, the files and folders of
+# the crates that were added, and the kit's command, whose time is that of its installation.
 is_current() {
     [ -x "$1" ] || return 1
-    local places=("$top/crates.txt" "$(readlink -f "$(command -v rt)")") crate part
+    local places=("$top/crates.txt") crate part kit
     for crate in "${crates[@]}"; do
         for part in src specs proofs; do
             [ ! -d "$top/crates/$crate/$part" ] || places+=("$top/crates/$crate/$part")
         done
     done
-    [ -z "$(find -H "${places[@]}" -newer "$1" -print -quit)" ]
+    [ -z "$(find -H "${places[@]}" -newer "$1" -print -quit)" ] || return 1
+    kit=$(command -v rt) || return 0
+    [ -z "$(find "$(readlink -f "$kit")" -newercm "$1")" ]
 }

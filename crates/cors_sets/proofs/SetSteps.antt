@@ -1,4 +1,4 @@
--- Sets of texts: their members joined one after another, searched, and in a row.
+-- Sets of texts: their members joined one after another, and in a row.
 use Rattle.std.proofs.Common.{◌≡◌, ◌+◌, ℕ, true, Result, Ok, Err, is_ok, false, List, [], ◌∷◌, ◌++◌, length, get_or, map, arith, sym, ap, ◌∙◌, refl, append_assoc, Bor, ne_eqb, length-append, eqb-true, inl, inr, is_eq, is_lt, Ordering, Less, Equal, Greater, IsSortedBy}
 use Rattle.std.specs.Prelude.{◌==◌}
 use Rattle.std.proofs.lemmas.Bool.{cases_lt}
@@ -9,7 +9,6 @@ use Rattle.std.proofs.lemmas.List.Sorted.{searchable_from_sorted}
 use Rattle.std.proofs.lemmas.Map.Keys.{Less-from_sorted}
 use Rattle.cors_sets.specs.Joining.{and_joined}
 use Rattle.std.specs.Prelude.{Bool, bytes_eq, codes}
-use Rattle.std.specs.BTreeMap.{is_at}
 use Rattle.std.specs.Cmp.Lexicographic.{slice_cmp, nat_list_cmp_total}
 use Rattle.std.specs.Char.{to_ascii_lowercase}
 use Rattle.std.specs.List.{list_any, list_all}
@@ -46,10 +45,6 @@ texts_more refs r = map_push (λ (r : Bor (List ℕ)). r.now) refs r
 
 pub texts_some : (refs : List (Bor (List ℕ))) (r : Bor (List ℕ)) → false ≡ (length (texts_of (refs ++ r ∷ [])) == 0)
 texts_some refs r = rw (texts_more refs r, length-append) (sym (ne_eqb (length (texts_of refs) + 1) 0 (omega arith)))
-
--- a search by the order of bytes tells whether the text is a member
-pub searched : (text : List ℕ) (set : Texts) → list_any (is_at (slice_cmp nat_cmp text)) set ≡ list_any (bytes_eq text) set
-searched text set = ap (λ (test : List ℕ → Bool). list_any test set) (λ i member. is_eq-slice_cmp text member i)
 
 -- one text of a row, from how it stands to the text that is asked for
 is_asked : (text member : List ℕ) (o : Ordering) → slice_cmp nat_cmp member text ≡ o → bytes_eq text member ≡ is_eq (ordering_reverse o)

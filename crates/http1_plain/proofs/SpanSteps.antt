@@ -4,15 +4,16 @@ use Rattle.std.specs.List.{All}
 use Rattle.std.specs.Prelude.{Result, Ok, Err, OnErr}
 use Rattle.bytes.proofs.Ranges.{slice_range_front}
 use Rattle.std.proofs.lemmas.List.{map_push, drop_more, drop_all, take_all, take-append-le, get_or-map}
-use Rattle.std.proofs.lemmas.List.Elements.{All-append, All-cons}
+use Rattle.std.proofs.lemmas.List.Elements.{All-append, All-cons, All-filter, All-map}
 use Rattle.std.proofs.Math.Seq.{drop-append_seam}
 use Rattle.http_header.specs.FieldName.{IsFieldName}
 use Rattle.http_header.specs.Token.{lowercase}
+use Rattle.http_header.proofs.TokenLemmas.{IsHeaderName-lowercase}
 use Rattle.httparse.specs.declared.spans.Span.{Span}
 use Rattle.httparse.specs.declared.spans.HeaderSpan.{HeaderSpan}
 use Rattle.httparse.specs.Spans.{span_bytes, IsWithin}
 use Rattle.http1_grammar.specs.Headers.{Header, is_named, get, get_all}
-use Rattle.http1_plain.specs.Fields.{IsValue}
+use Rattle.http1_plain.specs.Fields.{IsPair, IsValue}
 use Rattle.http1_plain.specs.Spanned.{header_at, headers_at, IsSpanOf, StandsAt}
 
 -- ---- bytes that go behind a text
@@ -122,6 +123,16 @@ stands text spans i span l is = ap (header_at text) is ∙ sym (get_or-map (head
 pub later : (text : List ℕ) (rest behind : List HeaderSpan) (span : HeaderSpan) (name : List ℕ) → rest ≡ span ∷ behind
     → is_named name (header_at text span) ≡ false → get_all (headers_at text behind) name ≡ get_all (headers_at text rest) name
 later text rest behind span name is other = sym (ap (λ (ss : List HeaderSpan). get_all (headers_at text ss) name) is ∙ rw other refl)
+
+-- ---- headers as names and values
+
+pub are_pairs : (text : List ℕ) (spans : List HeaderSpan) → All (IsSpanOf text) spans → All IsPair (headers_at text spans)
+are_pairs text spans h =
+    All-map IsPair (header_at text) spans (λ k d l. ((IsHeaderName-lowercase (span_bytes text (get_or spans k d).name) (h k d l).name).0, (h k d l).value))
+
+pub are_values : (headers : List Header) (name : List ℕ) → All IsPair headers → All IsValue (get_all headers name)
+are_values headers name h =
+    All-map IsValue (λ (header : Header). header.1) _ (All-filter (is_named name) (λ (header : Header). IsValue header.1) headers (λ k d l. (h k d l).1))
 
 pub on_err : {T E P : Type 0} (r : Result T E) → P → OnErr r P
 on_err (Ok x) p = tt

@@ -3,7 +3,7 @@ ghost use Rattle.std.specs.Prelude.{◌≡◌, ◌<◌, ◌+◌, ◌==◌, ◌++
 ghost use Rattle.http_header.specs.FieldName.{IsFieldName};
 ghost use Rattle.http_header.specs.Token.{lowercase};
 ghost use Rattle.http1_grammar.specs.Headers.{get, get_all};
-ghost use Rattle.http1_plain.specs.Fields.{IsValue, lowered};
+ghost use Rattle.http1_plain.specs.Fields.{IsPair, IsValue, lowered};
 ghost use Rattle.http1_plain.specs.Spanned.{headers_at, IsSpanOf, StandsAt};
 
 use crate::{FieldValue, HeaderLines, HeaderList, ValuesOf, is_name};
@@ -16,7 +16,7 @@ use std::marker::Model;
 /// The headers of a request in order (RFC 9110, section 5.3; actix-http, `HeaderMap`): one text, and where in it each name and
 /// value stands. So it takes two pieces of memory however many headers it has, and what is looked up is lent from the text.
 /// Names keep the case in which they were sent, and are compared in any. A contract sees the pairs of their names, in lower
-/// case, and values. Where headers are to be changed, `to_list` gives a list of their own.
+/// case, and values. Where headers are to be changed, `to_list` gives a list that can be.
 #[derive(Drop)]
 pub struct RequestHeaders {
     text: Octets,
@@ -65,7 +65,7 @@ fn first_value<'a>(text: &'a [u8], spans: &[HeaderSpan], name: &[u8]) -> Option<
     None
 }
 
-// The name that the bytes spell in any case.
+// The name that the bytes are, in lower case.
 fn name_of(alloc: Global, bytes: &[u8]) -> Result<HeaderName, AllocError>
     requires { IsFieldName bytes.now }
     ensures { IfOk result (λ name. name ≡ lowercase bytes.now) }
@@ -181,7 +181,8 @@ impl RequestHeaders {
 
     /// The names, in the case in which they were sent, and values in order, one after another.
     pub fn iter(&self) -> HeaderLines<'_>
-        ensures { result ≡ self.now }
+        ensures lines { result ≡ self.now }
+        ensures valid { All IsPair self.now }
     {
         HeaderLines::new(self.text.as_bytes(), &self.spans)
     }
@@ -189,7 +190,8 @@ impl RequestHeaders {
     /// The values of the name in order, one after another.
     #[inline(always)]
     pub fn get_all<'a>(&'a self, name: &'a HeaderName) -> ValuesOf<'a>
-        ensures { result ≡ get_all self.now name.now }
+        ensures values { result ≡ get_all self.now name.now }
+        ensures valid { All IsValue (get_all self.now name.now) }
     {
         ValuesOf::new(self.text.as_bytes(), &self.spans, name)
     }
@@ -208,7 +210,7 @@ impl RequestHeaders {
         self.text.allocator()
     }
 
-    /// An equal list whose names and values have memory of their own, or an error where memory ran out.
+    /// An equal list, which shares no text with these, or an error where memory ran out.
     pub fn to_list(&self) -> Result<HeaderList, AllocError>
         ensures { IfOk result (λ list. list ≡ self.now) }
     {

@@ -145,7 +145,7 @@ fn three_headers(alloc: Global) -> Result<HeaderList, AllocError> {
 fn lines_by_iter(alloc: Global, headers: &HeaderList) -> Result<Octets, AllocError> {
     let mut lines = empty(alloc);
     for (name, value) in headers.iter() {
-        add_line(&mut lines, name, value)?;
+        add_line(&mut lines, name.as_bytes(), value.as_bytes())?;
     }
     Ok(lines)
 }

@@ -38,14 +38,10 @@ pub(crate) fn list_of(alloc: Global, fields: &[(&str, &str)]) -> Result<HeaderLi
 }
 
 /// The text goes on with a header's line.
-pub(crate) fn add_line(
-    out: &mut Octets,
-    name: &HeaderName,
-    value: &FieldValue,
-) -> Result<(), AllocError> {
-    add(out, name.as_bytes())?;
+pub(crate) fn add_line(out: &mut Octets, name: &[u8], value: &[u8]) -> Result<(), AllocError> {
+    add(out, name)?;
     add(out, b"=")?;
-    add(out, value.as_bytes())?;
+    add(out, value)?;
     add(out, b";")
 }
 
@@ -53,7 +49,7 @@ pub(crate) fn add_line(
 pub(crate) fn lines(alloc: Global, headers: &HeaderList) -> Result<Octets, AllocError> {
     let mut lines = empty(alloc);
     for (name, value) in headers.entries() {
-        add_line(&mut lines, name, value)?;
+        add_line(&mut lines, name.as_bytes(), value.as_bytes())?;
     }
     Ok(lines)
 }
