@@ -55,14 +55,15 @@ BUDGET = {"proof": 3, "tests": 1.5, "edits with their seed": 5}
 spent = collections.defaultdict(lambda: dict.fromkeys(KINDS, 0.0))
 single, memory, tried = collections.defaultdict(list), collections.Counter(), collections.Counter()
 
-# What a run of the prover was for.
+# What a run of the prover was for. (The first edit of a crate is checked over nothing, those behind it over what that proved.)
 def kind_of(crate, words, place):
     if "--test" in words:
         return "tests"
     if not os.path.basename(place).startswith("rt-edit-"):
         return "proof"
     over = words[words.index("--incremental") + 1] if "--incremental" in words else ""
-    return "seed" if over.endswith("/seed") and not spent[crate]["seed"] else "edits"
+    is_first = over and not spent[crate]["seed"] and (over.endswith("/seed") or not single[crate])
+    return "seed" if is_first else "edits"
 
 # (a run that a signal ended is left out: it is done again)
 for row in map(json.loads, open(log) if os.path.exists(log) else ()):

@@ -1,11 +1,11 @@
 #!/usr/bin/env bash
 # What a worker's turn costs: has a worker make turns over 0, 1,000 and 10,000 connections that wait, once with a service that
-# reads once and is done, which shows the worker's own share, and once with the service of HTTP connections under the policy
-# that allows everything. Then connections of one request each go over the ring to it, one after the other, until each has come
-# back. Prints the instructions that valgrind counts for each turn and for each connection, and the allocations (where there is
-# a C compiler), as the difference of two runs, so that the start falls out. What a connection of one request costs is
-# compared with what `bench/requests.sh` counts for the request alone. It fails where a turn over connections that wait
-# allocates.
+# reads once and is done, which shows the worker's own share, and once with the services of HTTP connections that the program
+# listens with. Then connections of one request each go over the ring to it, one after the other, until each has come back.
+# Prints the instructions that valgrind counts for each turn and for each connection, and the allocations (where there is a C
+# compiler), as the difference of two runs, so that the start falls out. What a connection of one request costs is compared with
+# what `bench/requests.sh` counts for the request alone, by a service of its own with the same answer. It fails where a turn
+# over connections that wait allocates.
 set -eu
 top=$(cd "$(dirname "${BASH_SOURCE[0]}")/.." && pwd)
 "$top/checks/built.sh" bench_requests small 1 1 >&2
