@@ -1,3 +1,4 @@
+pub mod Asking
 pub mod Faults
 pub mod Verdicts
 pub mod Meaning

@@ -1,6 +1,7 @@
 //! The middleware that keeps a policy on cross-origin requests, and its builder.
 #![tactic(auto)]
 
+mod asked;
 mod cors;
 mod fault;
 mod future;

@@ -1,20 +1,25 @@
 //! The answer to a preflight (Fetch Standard, "CORS protocol").
-ghost use Rattle.std.specs.Prelude.{◌≡◌, ◌++◌, [], IfOk, IfSome, OnOk, codes, option_copied, decimal, option_map};
+ghost use Rattle.std.specs.Prelude.{◌≡◌, ◌++◌, [], true, Some, IfOk, IfSome, OnOk, codes, option_copied, decimal, option_map};
 ghost use Rattle.http1_plain.specs.Fields.{IsValue};
 ghost use Rattle.http1_plain.specs.Views.{view};
 ghost use Rattle.cors_rules.specs.Sets.{joined_some};
 ghost use Rattle.cors_rules.specs.Origins.{granted_value};
-ghost use Rattle.cors_rules.specs.Requested.{asked_headers, validate_allowed_method, validate_allowed_headers};
+ghost use Rattle.cors_rules.specs.Building.{is_token};
+ghost use Rattle.cors_rules.specs.Requested.{asked_method, validate_method, validate_headers};
 ghost use Rattle.cors_rules.specs.Fields.{allowed_value, field, vary, when};
+ghost use Rattle.cors_answer.specs.Asking.{IsAsked};
 ghost use Rattle.cors_rules.specs.Answers.{and_then, preflight_check, preflight_headers, preflight};
 
+use crate::asked::Asked;
 use crate::refusal::CorsRefusal;
-use cors_policy::{OriginRule, Policy, copied, origin_in, push_field, true_where, vary_where};
+use cors_policy::{
+    OriginRule, Policy, asked_headers_in, copied, origin_in, push_field, true_where, vary_where,
+};
 use cors_rules::{AllOrSome, CorsError};
 use cors_sets::{TextSet, number_value};
 use http_header::{
     ACCESS_CONTROL_ALLOW_CREDENTIALS, ACCESS_CONTROL_ALLOW_HEADERS, ACCESS_CONTROL_ALLOW_METHODS,
-    ACCESS_CONTROL_ALLOW_ORIGIN, ACCESS_CONTROL_MAX_AGE, ACCESS_CONTROL_REQUEST_HEADERS,
+    ACCESS_CONTROL_ALLOW_ORIGIN, ACCESS_CONTROL_MAX_AGE,
 };
 use http1_plain::{ErrorResponse, FieldValue, HeaderList, RequestHead, Response};
 use std::alloc::{AllocError, Global};
@@ -23,32 +28,35 @@ use std::alloc::{AllocError, Global};
 const MOST_FIELDS: usize = 6;
 
 // Method and headers of a preflight, in this order.
-fn check_asked<G: OriginRule>(policy: &Policy<G>, head: &RequestHead) -> Result<(), CorsError>
-    ensures { result ≡ and_then (validate_allowed_method policy.now (view head.now)) (validate_allowed_headers policy.now (view head.now)) }
+fn check_asked<G: OriginRule>(
+    policy: &Policy<G>,
+    method: &[u8],
+    headers: Option<&[u8]>,
+) -> Result<(), CorsError>
+    requires { is_token method.now ≡ true }
+    ensures { result ≡ and_then (validate_method policy.now.methods (Some method.now)) (validate_headers policy.now.headers (option_copied headers.entry)) }
 {
-    match policy.validate_allowed_method(head) {
+    match policy.validate_allowed_method_value(method) {
         Err(error) => Err(error),
-        Ok(()) => policy.validate_allowed_headers(head),
+        Ok(()) => policy.validate_allowed_headers_value(headers),
     }
 }
 
 // Origin, method and headers of a preflight, in this order.
-fn check_preflight<G: OriginRule>(policy: &Policy<G>, head: &RequestHead) -> Result<(), CorsError>
+#[tactic(auto, unfolding(cors_rules::specs::Requested::validate_allowed_method, cors_rules::specs::Requested::validate_allowed_headers))]
+fn check_preflight<G: OriginRule>(
+    policy: &Policy<G>,
+    head: &RequestHead,
+    asked: Asked<'_>,
+) -> Result<(), CorsError>
+    requires { IsAsked (view head.now) asked }
     ensures { result ≡ preflight_check G.allowed policy.now (view head.now) }
 {
-    match policy.validate_origin(head) {
+    match policy.validate_origin_value(head, asked.origin) {
         Err(error) => Err(error),
         Ok(false) => Err(CorsError::OriginNotAllowed),
-        Ok(true) => check_asked(policy, head),
+        Ok(true) => check_asked(policy, asked.method, asked.headers),
     }
-}
-
-// The headers that the request will have.
-fn asked_headers(head: &RequestHead) -> Option<&[u8]>
-    ensures value { option_copied result ≡ asked_headers (view head.now) }
-    ensures valid { IfSome result (λ names. IsValue names.now) }
-{
-    head.headers.get(&ACCESS_CONTROL_REQUEST_HEADERS)
 }
 
 // The request headers that the answer names: the finite set, or else what was asked for.
@@ -87,11 +95,13 @@ fn push_origin<G: OriginRule>(
     policy: &Policy<G>,
     alloc: Global,
     head: &RequestHead,
+    asked: Asked<'_>,
     headers: &mut HeaderList,
 ) -> Result<(), AllocError>
+    requires { IsAsked (view head.now) asked }
     ensures { OnOk result (headers.new ≡ headers.old ++ field (codes "access-control-allow-origin") (granted_value policy.now (view head.now))) }
 {
-    let origin = policy.grant_value(alloc, head, origin_in(head))?;
+    let origin = policy.grant_value(alloc, head, asked.origin)?;
     push_field(headers, ACCESS_CONTROL_ALLOW_ORIGIN, origin)
 }
 
@@ -111,12 +121,13 @@ fn push_methods<G: OriginRule>(
 fn push_names<G: OriginRule>(
     policy: &Policy<G>,
     alloc: Global,
-    head: &RequestHead,
+    asked: Option<&[u8]>,
     headers: &mut HeaderList,
 ) -> Result<(), AllocError>
-    ensures { OnOk result (headers.new ≡ headers.old ++ field (codes "access-control-allow-headers") (allowed_value policy.now.headers (asked_headers (view head.now)))) }
+    requires { IfSome asked (λ names. IsValue names.now) }
+    ensures { OnOk result (headers.new ≡ headers.old ++ field (codes "access-control-allow-headers") (allowed_value policy.now.headers (option_copied asked.entry))) }
 {
-    let names = allowed_value(&policy.headers, alloc, asked_headers(head))?;
+    let names = allowed_value(&policy.headers, alloc, asked)?;
     push_field(headers, ACCESS_CONTROL_ALLOW_HEADERS, names)
 }
 
@@ -159,13 +170,15 @@ fn push_headers<G: OriginRule>(
     policy: &Policy<G>,
     alloc: Global,
     head: &RequestHead,
+    asked: Asked<'_>,
     headers: &mut HeaderList,
 ) -> Result<(), AllocError>
+    requires { IsAsked (view head.now) asked }
     ensures { OnOk result (headers.new ≡ headers.old ++ preflight_headers policy.now (view head.now)) }
 {
-    push_origin(policy, alloc, head, headers)?;
+    push_origin(policy, alloc, head, asked, headers)?;
     push_methods(policy, alloc, headers)?;
-    push_names(policy, alloc, head, headers)?;
+    push_names(policy, alloc, asked.headers, headers)?;
     push_flags(policy, alloc, headers)
 }
 
@@ -174,11 +187,13 @@ fn write_headers<G: OriginRule>(
     policy: &Policy<G>,
     alloc: Global,
     head: &RequestHead,
+    asked: Asked<'_>,
     headers: &mut HeaderList,
 ) -> Result<(), AllocError>
+    requires { IsAsked (view head.now) asked }
     ensures { OnOk result (headers.new ≡ vary policy.now (headers.old ++ preflight_headers policy.now (view head.now))) }
 {
-    push_headers(policy, alloc, head, headers)?;
+    push_headers(policy, alloc, head, asked, headers)?;
     vary_where(policy, headers)
 }
 
@@ -196,11 +211,13 @@ fn passed_preflight<G: OriginRule>(
     policy: &Policy<G>,
     alloc: Global,
     head: &RequestHead,
+    asked: Asked<'_>,
 ) -> Result<Response, AllocError>
+    requires { IsAsked (view head.now) asked }
     ensures { IfOk result (λ r. r ≡ record { status = 200; headers = vary policy.now (preflight_headers policy.now (view head.now)); body = [] }) }
 {
     let mut headers = HeaderList::with_capacity(alloc, MOST_FIELDS)?;
-    match write_headers(policy, alloc, head, &mut headers) {
+    match write_headers(policy, alloc, head, asked, &mut headers) {
         Ok(()) => Ok(response_of(alloc, headers)),
         Err(error) => {
             drop(headers);
@@ -209,16 +226,37 @@ fn passed_preflight<G: OriginRule>(
     }
 }
 
-// The answer to a preflight.
+// The answer to a preflight, by what it asks for.
+fn answer_asked<G: OriginRule>(
+    policy: &Policy<G>,
+    alloc: Global,
+    head: &RequestHead,
+    asked: Asked<'_>,
+) -> Result<Response, AllocError>
+    requires { IsAsked (view head.now) asked }
+    ensures { IfOk result (λ r. r ≡ preflight G.allowed policy.now (view head.now)) }
+{
+    match check_preflight(policy, head, asked) {
+        Err(error) => CorsRefusal { error }.into_response(alloc),
+        Ok(()) => passed_preflight(policy, alloc, head, asked),
+    }
+}
+
+// The answer to a preflight for the method.
 pub(crate) fn answer_preflight<G: OriginRule>(
     policy: &Policy<G>,
     alloc: Global,
     head: &RequestHead,
+    method: &[u8],
 ) -> Result<Response, AllocError>
+    requires asked { asked_method (view head.now) ≡ Some method.now }
+    requires token { is_token method.now ≡ true }
     ensures { IfOk result (λ r. r ≡ preflight G.allowed policy.now (view head.now)) }
 {
-    match check_preflight(policy, head) {
-        Err(error) => CorsRefusal { error }.into_response(alloc),
-        Ok(()) => passed_preflight(policy, alloc, head),
-    }
+    let asked = Asked {
+        origin: origin_in(head),
+        method,
+        headers: asked_headers_in(head),
+    };
+    answer_asked(policy, alloc, head, asked)
 }

@@ -1,7 +1,9 @@
 //! What becomes of a request.
-ghost use Rattle.std.specs.Prelude.{◌≡◌, [], IfOk, option_copied};
+ghost use Rattle.std.specs.Prelude.{◌≡◌, [], true, Some, IfOk, IfSome, is_some, option_copied};
 ghost use Rattle.http1_plain.specs.Views.{view};
-ghost use Rattle.cors_rules.specs.Answers.{verdict, answered, by_grant, judged, refused};
+ghost use Rattle.cors_rules.specs.Building.{is_token};
+ghost use Rattle.cors_rules.specs.Requested.{asked_method};
+ghost use Rattle.cors_rules.specs.Answers.{takes_preflight, verdict, answered, by_grant, judged, refused};
 ghost use Rattle.cors_rules.specs.Origins.{origin_of};
 ghost use Rattle.cors_rules.specs.Fields.{vary};
 ghost use Rattle.cors_answer.specs.Verdicts.{verdict_of};
@@ -78,6 +80,19 @@ fn by_grant<G: OriginRule>(
     }
 }
 
+// The method that a preflight asks for, where the policy has preflights answered here.
+fn taken_method<'a, G>(policy: &Policy<G>, head: &'a RequestHead) -> Option<&'a [u8]>
+    ensures asked { IfSome result (λ method. asked_method (view head.now) ≡ Some method.now) }
+    ensures token { IfSome result (λ method. is_token method.now ≡ true) }
+    ensures taken { is_some result ≡ takes_preflight policy.now (view head.now) }
+{
+    if policy.preflight {
+        Policy::<G>::preflight_method(head)
+    } else {
+        None
+    }
+}
+
 // What becomes of the request under the policy.
 #[tactic(auto, unfolding(cors_rules::specs::Answers::verdict))]
 pub(crate) fn decide<G: OriginRule>(
@@ -87,9 +102,8 @@ pub(crate) fn decide<G: OriginRule>(
 ) -> Result<Verdict, AllocError>
     ensures { IfOk result (λ v. verdict_of v ≡ verdict G.allowed policy.now (view head.now)) }
 {
-    if policy.preflight && Policy::<G>::is_request_preflight(head) {
-        Ok(Verdict::Answered(answer_preflight(policy, alloc, head)?))
-    } else {
-        by_grant(policy, alloc, head)
+    match taken_method(policy, head) {
+        Some(method) => Ok(Verdict::Answered(answer_preflight(policy, alloc, head, method)?)),
+        None => by_grant(policy, alloc, head),
     }
 }

@@ -14,7 +14,7 @@ use crate::equalities::{are_equal, have_equal_policies};
 use crate::inner::Inner;
 use crate::shown::{every, hold, holds, not};
 use cors_answer::{Cors, CorsFault, CorsInitError, CorsMiddleware, CorsRefusal};
-use cors_policy::{ConfigError, CorsError, NoRule, OriginRule, Policy};
+use cors_policy::{ConfigError, CorsError, NoRule, OriginRule, Policy, asked_headers_in};
 use futures::task::Poll;
 use futures::test::MockTask;
 use http_header::VARY;
@@ -40,8 +40,20 @@ fn judges_origin(
     policy.validate_origin(head) == want
 }
 
+// Whether the method of a preflight is judged so where it was looked up.
+fn judges_looked_up(
+    policy: &Policy<NoRule>,
+    head: &RequestHead,
+    want: Result<(), CorsError>,
+) -> bool {
+    match Policy::<NoRule>::preflight_method(head) {
+        Some(method) => policy.validate_allowed_method_value(method) == want,
+        None => !Policy::<NoRule>::is_request_preflight(head),
+    }
+}
+
 fn judges_method(policy: &Policy<NoRule>, head: &RequestHead, want: Result<(), CorsError>) -> bool {
-    policy.validate_allowed_method(head) == want
+    policy.validate_allowed_method(head) == want && judges_looked_up(policy, head, want)
 }
 
 fn judges_headers(
@@ -50,6 +62,7 @@ fn judges_headers(
     want: Result<(), CorsError>,
 ) -> bool {
     policy.validate_allowed_headers(head) == want
+        && policy.validate_allowed_headers_value(asked_headers_in(head)) == want
 }
 
 fn says(policy: &Policy<NoRule>, head: &RequestHead, checks: Checks) -> bool {
@@ -351,6 +364,17 @@ fn is_preflight(alloc: Global, verb: Verb) -> Result<bool, AllocError> {
     }
 }
 
+fn asks_to_put(alloc: Global, verb: Verb) -> Result<bool, AllocError> {
+    match head(alloc, (verb, &PUT)) {
+        Ok(head) => {
+            let shown = Policy::<NoRule>::preflight_method(&head) == Some(b"PUT");
+            drop(head);
+            Ok(shown)
+        }
+        Err(error) => Err(error),
+    }
+}
+
 #[test]
 fn a_preflight_goes_by_options(rt: HostRuntime) -> Result<(), Fail> {
     let alloc = rt.alloc();
@@ -358,7 +382,9 @@ fn a_preflight_goes_by_options(rt: HostRuntime) -> Result<(), Fail> {
         &rt,
         &[
             is_preflight(alloc, Verb::Options),
+            asks_to_put(alloc, Verb::Options),
             not(is_preflight(alloc, Verb::Get)),
+            not(asks_to_put(alloc, Verb::Get)),
         ],
     )
 }

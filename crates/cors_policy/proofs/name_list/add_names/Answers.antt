@@ -1,4 +1,4 @@
-use Rattle.std.proofs.Common.{◌≡◌, ◌∷◌, take, sym, ap, ◌∙◌, take_all, fold}
+use Rattle.std.proofs.Common.{take, sym, ap, ◌∙◌, take_all, fold}
 use Rattle.std.proofs.lemmas.List.Folds.{fold-map}
 use Rattle.std.proofs.lemmas.List.Sums.{fold_more}
 use Rattle.http1_grammar.specs.Headers.{Header}

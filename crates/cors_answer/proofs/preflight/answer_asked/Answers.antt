@@ -1,5 +1,5 @@
 use Rattle.std.proofs.Common.{rules}
-use Rattle.cors_answer.proofs.preflight.answer_preflight.Goals as goal
+use Rattle.cors_answer.proofs.preflight.answer_asked.Goals as goal
 
 pub returns-in-Err : goal.returns-in-Err
 returns-in-Err g c = search rules
