@@ -3,7 +3,7 @@ ghost use Rattle.std.specs.Prelude.{◌≡◌, ◌≢◌, ◌≤◌, ◌<◌, �
 ghost use Rattle.http1_grammar.specs.Lines.{is_line_feed, empty_line, skip_empty_lines, head_len};
 ghost use Rattle.http1_head.specs.Passing.{EndsFrom};
 
-use memchr::memchr;
+use memchr::{memchr, memchr_iter};
 
 /// How many bytes an empty line at the front has.
 pub fn empty_line(bytes: &[u8]) -> Option<usize>
@@ -56,7 +56,7 @@ pub struct HeadSize {
 fn count_lines(bytes: &[u8]) -> usize
     ensures { result ≡ count_by is_line_feed bytes.now }
 {
-    bytes.iter().filter(|b| **b == b'\n').count()
+    memchr_iter(b'\n', bytes).count()
 }
 
 /// How large the head at the front is, if it ends there (RFC 9112, section 2.2). Its end is looked for from this place on.
