@@ -48,7 +48,7 @@ fn judges_looked_up(
 ) -> bool {
     match Policy::<NoRule>::preflight_method(head) {
         Some(method) => policy.validate_allowed_method_value(method) == want,
-        None => !Policy::<NoRule>::is_request_preflight(head),
+        None => head.method.as_str() != "OPTIONS" || want.is_err(),
     }
 }
 
