@@ -1,0 +1,50 @@
+#!/usr/bin/env bash
+# Tries the wrong bodies that the gate leaves out: each wrong-bodies/CRATE/NAME.edit breaks a function or a law on purpose, and the
+# prover has to refuse it. All of them, or those of the crates that are named:
+#   checks/wrong-bodies.sh [CRATE..]
+# They are put in place in a copy of the tree, beside those of crates/CRATE/must-fail, and tried there by `rt must-fail`; what that has tried
+# before of the same files on this machine is not tried again. It prints a line for each, and last how many were refused and how many were not.
+# It takes the proof of each of the crates and of those below, where no earlier check on the machine left them, and half a minute a body.
+set -eu
+top=$(cd "$(dirname "${BASH_SOURCE[0]}")/.." && pwd)
+cd "$top"
+named=("$@")
+if [ $# = 0 ]; then
+    for bodies in wrong-bodies/*/; do
+        named+=("$(basename "$bodies")")
+    done
+fi
+for crate in "${named[@]}"; do
+    if [ ! -d "crates/$crate/src" ]; then
+        echo "$crate is no crate" >&2
+        exit 2
+    fi
+done
+work=$(mktemp -d)
+trap 'rm -rf "$work"' EXIT
+trap 'exit 1' INT TERM
+mkdir "$work/tree"
+tar -c --exclude=out crates crates.txt HANDLES | tar -x -C "$work/tree"
+wanted=0
+for crate in "${named[@]}"; do
+    for edit in "wrong-bodies/$crate"/*.edit; do
+        [ -e "$edit" ] || continue
+        if [ -e "crates/$crate/must-fail/$(basename "$edit")" ]; then
+            echo "$crate: $(basename "$edit") stands in must-fail too" >&2
+            exit 2
+        fi
+        mkdir -p "$work/tree/crates/$crate/must-fail"
+        cp "$edit" "$work/tree/crates/$crate/must-fail"
+    done
+    wanted=$((wanted + $(find "$work/tree/crates/$crate/must-fail" -name '*.edit' 2> /dev/null | wc -l)))
+done
+cd "$work/tree"
+git init -q
+rt must-fail "${named[@]}" > "$work/said" 2>&1 || true
+grep -E '^(rt: )?must-fail ' "$work/said" | sed 's/^rt: //' | cut -c1-160
+refused=$(grep -cE '^(rt: )?must-fail [^ ]+: refused, as it must be' "$work/said" || true)
+if [ "$refused" != "$wanted" ]; then
+    tail -n 20 "$work/said"
+fi
+echo "$refused passed, $((wanted - refused)) failed"
+[ "$refused" = "$wanted" ]
