@@ -20,7 +20,7 @@ import sys
 import tempfile
 import time
 
-from clients import connect, ensure, response
+from clients import connect, has, response
 
 PROGRAM = sys.argv[1]
 REQUEST = b"GET / HTTP/1.1\r\nHost: a\r\n\r\n"
@@ -303,10 +303,10 @@ def attempt(part, servers):
 def main():
     print(f"{os.cpu_count()} processors, with a load of {os.getloadavg()[0]:.1f} before the start", flush=True)
     servers = {"ours": ours}
-    if ensure("nginx", "nginx"):
+    if has("nginx"):
         servers["nginx"] = nginx
     for tool, part in (("wrk", by_wrk), ("valgrind", by_valgrind), ("strace", by_strace)):
-        if ensure(tool, tool):
+        if has(tool):
             attempt(part, servers)
     attempt(by_idle, servers)
 

@@ -1,6 +1,8 @@
 #!/usr/bin/env python3
 """Proves each crate of the program, as many side by side as processors and memory allow, and builds it:
     ./dongurapi build
+Or the libraries that are named, with those below them, for commands of `rt` that go on from there:
+    checks/build.py NAME..
 
 A line for each crate that is proved says how many of how many that are, what is under way, and after the first minute how long the
 rest may take. `rt` lets one run at a time into a crate's folder and into those below it, so each is proved in a copy of the sources,
@@ -82,11 +84,11 @@ class Room:
 
 
 class Build:
-    """The crates of the program on their way."""
+    """Crates on their way, with those below them."""
 
-    def __init__(self, work_folder):
+    def __init__(self, named, work_folder):
         self.below = standing_on()
-        self.crates = with_those_below([PROGRAM], self.below)
+        self.crates = with_those_below(named, self.below)
         self.work_folder = work_folder
         cost = costs()
         minutes = {crate: cost[crate].proof if crate in cost else 1.0 for crate in self.crates}
@@ -135,15 +137,20 @@ class Build:
 
 
 def main():
-    begun = time.time()
+    begun, named = time.time(), sys.argv[1:] or [PROGRAM]
+    unknown = [name for name in named if name != PROGRAM and not os.path.exists(folder(name, "src", "lib.rt"))]
+    if unknown:
+        print(f"dongurapi: no library: {' '.join(unknown)}", file=sys.stderr)
+        return 2
     with tempfile.TemporaryDirectory(prefix="dongurapi-build-", ignore_cleanup_errors=True) as work_folder:
-        build = Build(work_folder)
+        build = Build(named, work_folder)
         for number in (signal.SIGINT, signal.SIGTERM):
             signal.signal(number, build.stop)
         if not build.work.run(build.prove, build.tell):
             return 1
     # (what was changed meanwhile is newer)
-    os.utime(folder(PROGRAM, "out", PROGRAM), (begun, begun))
+    if PROGRAM in named:
+        os.utime(folder(PROGRAM, "out", PROGRAM), (begun, begun))
     return 0
 
 

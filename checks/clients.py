@@ -2,7 +2,6 @@
 that the machine may lack."""
 
 import contextlib
-import functools
 import os
 import re
 import shutil
@@ -15,7 +14,9 @@ import time
 TOP = os.path.dirname(os.path.dirname(os.path.abspath(__file__)))
 PROGRAM = os.path.join(TOP, "dongurapi")
 REQUEST = b"GET / HTTP/1.1\r\nHost: a\r\nOrigin: https://a.example\r\n\r\n"
-passed = failed = 0
+passed = failed = skipped = 0
+# The status of a script of which a part was skipped.
+SKIPPED = 77
 
 
 def check(shown, holds, got=""):
@@ -38,8 +39,8 @@ def attempt(part):
 
 def sum_up():
     """Prints how many checks there were, and ends."""
-    print(f"{passed} passed, {failed} failed")
-    sys.exit(failed != 0)
+    print(f"{passed} passed, {failed} failed" + (f", {skipped} skipped" if skipped else ""))
+    sys.exit(1 if failed else SKIPPED if skipped else 0)
 
 
 @contextlib.contextmanager
@@ -133,29 +134,14 @@ def ends(program, count, served=r"\d+"):
     check(f"{count} connections", re.fullmatch(wanted, out) and program.returncode == 0, out)
 
 
-def apt_get(*words):
-    """Whether apt-get does what the words say, in five minutes at most."""
-    quiet = dict(os.environ, DEBIAN_FRONTEND="noninteractive")
-    try:
-        ran = subprocess.run(
-            ["apt-get", *words], env=quiet, timeout=300,
-            stdin=subprocess.DEVNULL, stdout=subprocess.DEVNULL, stderr=subprocess.DEVNULL)
-    except (OSError, subprocess.TimeoutExpired):
-        return False
-    return ran.returncode == 0
-
-
-@functools.cache
-def knows_packages():
-    """Whether apt-get can be asked for packages: it has been told once what there is."""
-    return os.geteuid() == 0 and apt_get("update")
-
-
-def ensure(tool, package):
-    """Whether the machine has the tool, which is installed where that can be done. Says so where it lacks."""
-    if shutil.which(tool) is None and knows_packages():
-        apt_get("install", "-y", "--no-install-recommends", package)
-    there = shutil.which(tool) is not None
-    if not there:
-        print(f"no {tool} on this machine: its part is left out")
-    return there
+def has(tool):
+    """Whether the machine has the tool. Where it lacks, its part is skipped, or has failed where CI is set."""
+    global skipped
+    if shutil.which(tool):
+        return True
+    print(f"skipped: what {tool} is needed for, which this machine lacks")
+    if os.environ.get("CI"):
+        check(tool, False, "not on this machine")
+    else:
+        skipped += 1
+    return False

@@ -5,10 +5,8 @@
 # It runs the program that `rt ci` has built of `crates/bench_requests`, or builds it; a C compiler is wanted.
 set -eu
 top=$(cd "$(dirname "${BASH_SOURCE[0]}")/.." && pwd)
-if ! command -v cc > /dev/null; then
-    echo "no C compiler: no allocation was counted"
-    exit 0
-fi
+. "$top/checks/skip.sh"
+command -v cc > /dev/null || skip "no C compiler, so no allocation was counted"
 work=$(mktemp -d)
 trap 'rm -rf "$work"' EXIT
 cc -O1 -fPIC -shared -o "$work/allocations.so" "$top/checks/allocations.c"

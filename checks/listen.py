@@ -8,7 +8,7 @@ with a page of another origin, which asks with a preflight and without one. Each
 have come as its words say, and prints how many. A second program at the same address is refused, with the reason. Last the
 program of `examples/stop.md`, which a request stops: it serves the connection to its end that has begun, and accepts no other.
 
-A tool that the machine lacks is installed where that can be done; else its part is left out, and a line says so.
+Where the machine lacks a tool its part is skipped, and a line says so; where CI is set it has failed. `checks/tools.sh` installs what lacks.
 """
 
 import os
@@ -21,8 +21,8 @@ import time
 sys.dont_write_bytecode = True
 from browser import told_by_browser
 from clients import (
-    PROGRAM, REQUEST, TOP, attempt, check, connect, connect_within, ends, ensure,
-    fill_up, free_port, listen, response, sum_up)
+    PROGRAM, REQUEST, TOP, attempt, check, connect, connect_within, ends,
+    fill_up, free_port, has, listen, response, sum_up)
 
 
 def said(command):
@@ -36,7 +36,7 @@ def curl(port, *words):
 
 
 def by_curl():
-    if not ensure("curl", "curl"):
+    if not has("curl"):
         return
     with listen(7) as (program, port):
         plain = curl(port)
@@ -85,7 +85,7 @@ def beside_slow_ones():
 
 
 def by_wrk():
-    if not ensure("wrk", "wrk"):
+    if not has("wrk"):
         return
     with listen(100) as (program, port):
         told = said(["wrk", "-t2", "-c64", "-d2s", f"http://127.0.0.1:{port}/"])
@@ -97,7 +97,7 @@ def by_wrk():
 
 
 def by_browser():
-    if not ensure("chromium", "chromium"):
+    if not has("chromium"):
         return
     with listen(40) as (program, port):
         told = told_by_browser(port)

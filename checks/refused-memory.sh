@@ -7,13 +7,11 @@
 # It prints how many were refused, and fails where a run ends otherwise.
 #
 # It tries the program and the tests that `rt ci` has built. A small library that is loaded before the C library refuses
-# the allocations, so a C compiler is wanted: with none on the machine nothing is tried, and it says so.
+# the allocations, so a C compiler is wanted.
 set -eu
 top=$(cd "$(dirname "${BASH_SOURCE[0]}")/.." && pwd)
-if ! command -v cc > /dev/null; then
-    echo "no C compiler: no allocation was refused"
-    exit 0
-fi
+. "$top/checks/skip.sh"
+command -v cc > /dev/null || skip "no C compiler, so no allocation was refused"
 work=$(mktemp -d)
 trap 'rm -rf "$work"' EXIT
 

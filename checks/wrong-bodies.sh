@@ -2,9 +2,9 @@
 # Tries the wrong bodies that the gate leaves out: each wrong-bodies/CRATE/NAME.edit breaks a function or a law on purpose, and the
 # prover has to refuse it. All of them, or those of the crates that are named:
 #   checks/wrong-bodies.sh [CRATE..]
-# They are put in place in a copy of the tree, beside those of crates/CRATE/must-fail, and tried there by `rt must-fail`; what that has tried
-# before of the same files on this machine is not tried again. It prints a line for each, and last how many were refused and how many were not.
-# It takes the proof of each of the crates and of those below, where no earlier check on the machine left them, and half a minute a body.
+# They are put in place in a copy of the tree, beside those of crates/CRATE/must-fail. There the crates are proved, with those below, where no
+# earlier check on the machine left that, and `rt must-fail` tries each, in half a minute or so; what it has tried before of the same files on
+# this machine it does not try again. It prints a line for each, and last how many were refused and how many were not.
 set -eu
 top=$(cd "$(dirname "${BASH_SOURCE[0]}")/.." && pwd)
 cd "$top"
@@ -24,7 +24,7 @@ work=$(mktemp -d)
 trap 'rm -rf "$work"' EXIT
 trap 'exit 1' INT TERM
 mkdir "$work/tree"
-tar -c --exclude=out crates crates.txt HANDLES | tar -x -C "$work/tree"
+tar -c --exclude=out checks crates crates.txt docs HANDLES | tar -x -C "$work/tree"
 wanted=0
 for crate in "${named[@]}"; do
     for edit in "wrong-bodies/$crate"/*.edit; do
@@ -40,6 +40,7 @@ for crate in "${named[@]}"; do
 done
 cd "$work/tree"
 git init -q
+checks/build.py "${named[@]}"
 rt must-fail "${named[@]}" > "$work/said" 2>&1 || true
 grep -E '^(rt: )?must-fail ' "$work/said" | sed 's/^rt: //' | cut -c1-160
 refused=$(grep -cE '^(rt: )?must-fail [^ ]+: refused, as it must be' "$work/said" || true)
