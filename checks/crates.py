@@ -2,6 +2,7 @@
 
 import collections
 import concurrent.futures
+import math
 import os
 import re
 import time
@@ -95,7 +96,7 @@ class Work:
     """Work on crates, as much side by side as there are lanes: each once those that it waits for have ended well, first what most waits for.
 
     `minutes` has each crate with what it is likely to take in one lane, and `waits` those that it waits for. Lanes that nothing else waits
-    for are given to what is begun, as its jobs, at most four, where there is memory for them."""
+    for are given to what is begun, as its jobs, at most four, where there is memory for them; what most waits for has more than its share."""
 
     def __init__(self, minutes, waits, lanes, jobs_take=None):
         self.minutes, self.waits, self.lanes, self.jobs_take = minutes, waits, lanes, jobs_take
@@ -112,12 +113,14 @@ class Work:
         found = [crate for crate in left if all(need in ended for need in self.waits[crate])]
         return sorted(found, key=lambda crate: (-self.behind[crate], crate))
 
-    def jobs_of(self, place, ready, idle):
-        """How many jobs the crate at this place of those ready is given."""
+    def jobs_of(self, crate, share, left):
+        """How many jobs the crate is given, where this is its share of the lanes: more where what waits for it would else end behind all the rest."""
         if self.jobs_take is None:
             return 1
         fitting = 1 + max(0, int((0.85 * free_memory() - CHECK) // self.jobs_take))
-        return max(1, min(4, fitting, idle // (len(ready) - place)))
+        rest = sum(self.minutes[it] for it in left) / self.lanes
+        wanted = math.ceil(self.behind[crate] / rest) if rest else 1
+        return max(1, min(4, fitting, max(share, wanted)))
 
     def begin(self, pool, call):
         """Begins what can begin, as long as a lane is free."""
@@ -126,7 +129,7 @@ class Work:
             idle = self.lanes - sum(jobs for _, _, jobs in self.running.values())
             if idle <= 0 or self.has_failed:
                 return
-            jobs = self.jobs_of(place, ready, idle)
+            jobs = self.jobs_of(crate, idle // (len(ready) - place), [*self.left, *self.under_way()])
             self.left.remove(crate)
             self.running[pool.submit(call, crate, jobs)] = crate, time.monotonic(), jobs
 
@@ -166,7 +169,7 @@ class Work:
             running[crate] = max(whole - (now - since) / 60, 0.1 * whole), jobs
         while left or running:
             for crate in self.ready(left, ended)[: max(0, self.lanes - sum(jobs for _, jobs in running.values()))]:
-                jobs = self.jobs_of(0, [crate], self.lanes // max(1, len(self.ready(left, ended)) + len(running)))
+                jobs = self.jobs_of(crate, self.lanes // max(1, len(self.ready(left, ended)) + len(running)), [*left, *running])
                 left.remove(crate)
                 running[crate] = at + pace * self.minutes[crate] / (1 + 0.6 * (jobs - 1)), jobs
             if not running:

@@ -1,7 +1,5 @@
 //! Requests are made, and what answers them is compared.
-use crate::building::{Call, built};
 use crate::inner::Inner;
-use crate::shown::holds;
 use cors_answer::{Cors, CorsFault, CorsInitError, CorsMiddleware};
 use cors_policy::OriginRule;
 use futures::task::Poll;
@@ -13,10 +11,7 @@ use http1_plain::{
     write_response,
 };
 use service_core::{Octets, Peer, Service, Transform};
-use std::alloc::{AllocError, AllocGlobal, Global};
-use std::process::Abort;
-use std::random::RandomSource;
-use std::test::Fail;
+use std::alloc::{AllocError, Global};
 
 /// By which method something is asked. A request's own method may own memory, whose end each function that is handed it would
 /// have.
@@ -321,28 +316,4 @@ pub(crate) fn is_answered_under<G: OriginRule>(
         Ok(cors) => is_answered(task, alloc, cors, asked, text),
         Err(error) => Err(*error),
     }
-}
-
-fn is_answered_after(
-    task: &MockTask,
-    alloc: Global,
-    calls: &[Call],
-    asked: Asked,
-    text: &str,
-) -> Result<bool, AllocError> {
-    let cors = built(alloc, calls);
-    let shown = is_answered_under(task, alloc, &cors, asked, text);
-    drop(cors);
-    shown
-}
-
-/// This text answers a request under a policy without rules.
-pub(crate) fn answers<R>(rt: &R, calls: &[Call], asked: Asked, text: &str) -> Result<(), Fail>
-where
-    R: RandomSource + AllocGlobal + Abort,
-{
-    let task = MockTask::new(rt)?;
-    let shown = is_answered_after(&task, rt.alloc(), calls, asked, text);
-    drop(task);
-    holds(rt, shown)
 }

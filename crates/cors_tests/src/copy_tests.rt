@@ -1,7 +1,7 @@
 //! Copies of a service under a policy.
 use crate::asking::{Asked, Made, Verb, response_by, service_under};
+use crate::asks::{Ask, is_so_after};
 use crate::building::Call::{Block, Origin};
-use crate::building::built;
 use crate::empty_answers::has_answer_status;
 use crate::inner::Inner;
 use crate::shown::hold;
@@ -50,8 +50,8 @@ fn answer_has_status(
     shown
 }
 
-// Whether the copy of a service under the policy, left alone, answers a request by this status.
-fn copy_gives(
+/// Whether the copy of a service under the policy, left alone, answers a request by this status.
+pub(crate) fn copy_gives(
     task: &MockTask,
     alloc: Global,
     cors: &Cors<NoRule>,
@@ -63,37 +63,19 @@ fn copy_gives(
     shown
 }
 
-fn copy_gives_under(
-    task: &MockTask,
-    alloc: Global,
-    cors: &Result<Cors<NoRule>, AllocError>,
-    row: (Asked, u16),
-) -> Result<bool, AllocError> {
-    match cors {
-        Ok(cors) => copy_gives(task, alloc, cors, row),
-        Err(error) => Err(*error),
-    }
-}
-
 // The same under a policy that blocks all origins but one.
-fn blocks(task: &MockTask, alloc: Global, row: (Asked, u16)) -> Result<bool, AllocError> {
+fn blocks(rt: &HostRuntime, row: (Asked, u16)) -> Result<bool, AllocError> {
     let calls = [Origin("https://a.example"), Block];
-    let cors = built(alloc, &calls);
-    let shown = copy_gives_under(task, alloc, &cors, row);
-    drop(cors);
-    shown
+    is_so_after(rt, &calls, &Ask::CopyAnswers(row.0, row.1))
 }
 
 #[test]
 fn a_copy_answers_under_the_same_policy(rt: HostRuntime) -> Result<(), Fail> {
-    let task = MockTask::new(&rt)?;
-    let alloc = rt.alloc();
     let granted = [("Origin", "https://a.example")];
     let other = [("Origin", "https://b.example")];
     let shown = [
-        blocks(&task, alloc, ((Verb::Get, &granted), 200)),
-        blocks(&task, alloc, ((Verb::Get, &other), 400)),
+        blocks(&rt, ((Verb::Get, &granted), 200)),
+        blocks(&rt, ((Verb::Get, &other), 400)),
     ];
-    drop(task);
     hold(&rt, &shown)
 }

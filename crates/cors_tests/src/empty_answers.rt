@@ -1,29 +1,15 @@
 //! What becomes of requests to a service that answers 204.
-ghost use Rattle.std.specs.Prelude.{true};
-
 use crate::asking::{Verb, response_under};
 use crate::building::Call::{AnyHeader, AnyMethod, NoPreflight};
 use crate::building::{Call, ruled};
 use crate::inner::Inner;
+use crate::policies::RustLang;
 use crate::shown::{every, hold};
 use cors_answer::Cors;
-use cors_policy::OriginRule;
 use futures::test::MockTask;
-use http1_plain::{RequestHead, Response};
+use http1_plain::Response;
 use std::alloc::{AllocError, Global};
 use std::test::Fail;
-
-/// Allows every origin.
-#[derive(Clone, Copy, Debug, PartialEq, Eq)]
-struct Always;
-
-impl OriginRule for Always {
-    ghost allowed = { λ rule origin head. true };
-
-    fn allows(&self, _origin: &[u8], _head: &RequestHead) -> bool {
-        true
-    }
-}
 
 /// Whether there is a response of this status.
 pub(crate) fn is_of_status(response: &Option<Response>, status: u16) -> bool {
@@ -48,11 +34,11 @@ pub(crate) fn has_answer_status(
 fn gives_status(
     task: &MockTask,
     alloc: Global,
-    cors: &Cors<Always>,
+    cors: &Cors<RustLang>,
     row: (Verb, u16),
 ) -> Result<bool, AllocError> {
     let fields = [
-        ("Origin", "https://a.example"),
+        ("Origin", "https://a.rust-lang.org"),
         ("Access-Control-Request-Method", "POST"),
     ];
     let inner = Inner {
@@ -68,7 +54,7 @@ fn gives_status(
 fn gives_status_under(
     task: &MockTask,
     alloc: Global,
-    cors: &Result<Cors<Always>, AllocError>,
+    cors: &Result<Cors<RustLang>, AllocError>,
     row: (Verb, u16),
 ) -> Result<bool, AllocError> {
     match cors {
@@ -77,14 +63,14 @@ fn gives_status_under(
     }
 }
 
-// Whether the answer has the status where every origin is allowed by a rule, and what the calls allow.
+// Whether the answer has the status where the origin is allowed by a rule, and what the calls allow.
 fn has_status(
     task: &MockTask,
     alloc: Global,
     calls: &[Call],
     row: (Verb, u16),
 ) -> Result<bool, AllocError> {
-    let cors = ruled(alloc, Always, calls);
+    let cors = ruled(alloc, RustLang, calls);
     let shown = gives_status_under(task, alloc, &cors, row);
     drop(cors);
     shown

@@ -6,6 +6,8 @@ mod applied;
 #[cfg(test)]
 mod asking;
 #[cfg(test)]
+mod asks;
+#[cfg(test)]
 mod building;
 #[cfg(test)]
 mod copy_tests;

@@ -2,9 +2,8 @@
 ghost use Rattle.std.specs.Prelude.{nat_eq, codes};
 ghost use Rattle.std.specs.List.{ends_with};
 
-use crate::asking::{
-    Asked, Made, Verb, answers, head, is_answered, is_answered_under, list_of, service_under,
-};
+use crate::asking::{Asked, Made, Verb, head, is_answered_under, list_of, service_under};
+use crate::asks::{Ask, answers, is_so, is_so_after};
 use crate::building::Call::{
     Age, AnyOrigin, Block, Credentials, Expose, ExposeAny, Headers, Methods, NoPreflight, NoVary,
     Origin, Permissive, Wildcard,
@@ -20,13 +19,11 @@ use futures::test::MockTask;
 use http_header::VARY;
 use http1_plain::{ErrorResponse, FieldValue, HeaderList, RequestHead, Response};
 use service_core::{NoMemory, Service};
-use std::alloc::{AllocError, AllocGlobal, Global};
-use std::process::Abort;
-use std::random::RandomSource;
+use std::alloc::{AllocError, Global};
 use std::test::Fail;
 
 /// What a policy says of a request's origin, of its method and of the headers that it asks for.
-type Checks = (
+pub(crate) type Checks = (
     Result<bool, CorsError>,
     Result<(), CorsError>,
     Result<(), CorsError>,
@@ -75,7 +72,8 @@ fn grants(policy: &Policy<NoRule>, head: &RequestHead, origin: &[u8]) -> bool {
     policy.access_control_allow_origin(head) == Some(origin)
 }
 
-fn cors_says(
+/// Whether the policy of a builder says so of the request.
+pub(crate) fn cors_says(
     alloc: Global,
     cors: &Cors<NoRule>,
     asked: Asked,
@@ -91,31 +89,6 @@ fn cors_says(
     }
 }
 
-fn says_under(
-    alloc: Global,
-    cors: &Built,
-    asked: Asked,
-    checks: Checks,
-) -> Result<bool, AllocError> {
-    match cors {
-        Ok(cors) => cors_says(alloc, cors, asked, checks),
-        Err(error) => Err(*error),
-    }
-}
-
-// Whether a policy after the calls says so of the request.
-fn policy_says(
-    alloc: Global,
-    calls: &[Call],
-    asked: Asked,
-    checks: Checks,
-) -> Result<bool, AllocError> {
-    let cors = built(alloc, calls);
-    let shown = says_under(alloc, &cors, asked, checks);
-    drop(cors);
-    shown
-}
-
 #[test]
 fn refusals_by_each_check(rt: HostRuntime) -> Result<(), Fail> {
     let calls = [Origin("https://a.example"), Block];
@@ -128,15 +101,13 @@ fn refusals_by_each_check(rt: HostRuntime) -> Result<(), Fail> {
         Err(CorsError::MissingRequestMethod),
         Err(CorsError::HeadersNotAllowed),
     );
-    holds(
-        &rt,
-        policy_says(rt.alloc(), &calls, (Verb::Get, &fields), checks),
-    )
+    let ask = Ask::Says((Verb::Get, &fields), checks);
+    holds(&rt, is_so_after(&rt, &calls, &ask))
 }
 
 /// Allows origins under `.rust-lang.org`.
 #[derive(Clone, Copy, Debug, PartialEq, Eq)]
-struct RustLang;
+pub(crate) struct RustLang;
 
 impl OriginRule for RustLang {
     ghost allowed = { λ rule origin head. ends_with nat_eq origin (codes ".rust-lang.org") };
@@ -170,15 +141,16 @@ fn rust_lang_gives(
     shown
 }
 
-// This text answers a request under that policy.
-fn rust_lang_answers<R>(rt: &R, asked: Asked, text: &str) -> Result<(), Fail>
-where
-    R: RandomSource + AllocGlobal + Abort,
-{
-    let task = MockTask::new(rt)?;
-    let shown = rust_lang_gives(&task, rt.alloc(), asked, text);
-    drop(task);
-    holds(rt, shown)
+// Whether this text answers a request under that policy.
+fn rust_lang_answers(rt: &HostRuntime, asked: Asked, text: &str) -> Result<bool, AllocError> {
+    match MockTask::new(rt) {
+        Ok(task) => {
+            let shown = rust_lang_gives(&task, rt.alloc(), asked, text);
+            drop(task);
+            shown
+        }
+        Err(_) => Err(AllocError),
+    }
 }
 
 #[test]
@@ -189,7 +161,7 @@ fn a_rule_allows_an_origin(rt: HostRuntime) -> Result<(), Fail> {
     ];
     let text =
         "HTTP/1.1 200 OK\r\naccess-control-allow-origin: https://blog.rust-lang.org\r\naccess-control-allow-methods: GET, POST\r\naccess-control-allow-headers: accept, authorization, content-type\r\naccess-control-max-age: 3600\r\nvary: Origin, Access-Control-Request-Method, Access-Control-Request-Headers\r\ncontent-length: 0\r\n\r\n";
-    rust_lang_answers(&rt, (Verb::Options, &fields), text)
+    holds(&rt, rust_lang_answers(&rt, (Verb::Options, &fields), text))
 }
 
 #[test]
@@ -200,64 +172,47 @@ fn no_rule_allows_an_origin(rt: HostRuntime) -> Result<(), Fail> {
     ];
     let text =
         "HTTP/1.1 400 Bad Request\r\ncontent-length: 42\r\n\r\nOrigin is not allowed to make this request";
-    rust_lang_answers(&rt, (Verb::Options, &fields), text)
+    holds(&rt, rust_lang_answers(&rt, (Verb::Options, &fields), text))
 }
 
-fn has_error(cors: &Built, error: Option<ConfigError>) -> Result<bool, AllocError> {
-    match cors {
-        Ok(cors) => Ok(cors.error() == error),
-        Err(error) => Err(*error),
-    }
-}
-
-// Whether this is the error that a builder keeps after the calls.
-fn keeps(alloc: Global, calls: &[Call], error: Option<ConfigError>) -> Result<bool, AllocError> {
-    let cors = built(alloc, calls);
-    let shown = has_error(&cors, error);
-    drop(cors);
-    shown
-}
-
+// Whether this is the error that a builder keeps of an origin.
 fn keeps_of_origin(
-    alloc: Global,
+    rt: &HostRuntime,
     origin: &'static str,
     error: Option<ConfigError>,
 ) -> Result<bool, AllocError> {
-    keeps(alloc, &[Origin(origin)], error)
+    is_so_after(rt, &[Origin(origin)], &Ask::Keeps(error))
 }
 
-fn keeps_each_error(alloc: Global) -> Result<bool, AllocError> {
+fn keeps_each_error(rt: &HostRuntime) -> Result<bool, AllocError> {
     let wildcard = Some(ConfigError::WildcardOrigin);
     let uri = Some(ConfigError::BadOriginUri);
     let value = Some(ConfigError::BadOriginValue);
     every(&[
-        keeps_of_origin(alloc, "*", wildcard),
-        keeps_of_origin(alloc, "a b", uri),
-        keeps_of_origin(alloc, "", uri),
-        keeps_of_origin(alloc, "//#*//é=", value),
+        keeps_of_origin(rt, "*", wildcard),
+        keeps_of_origin(rt, "a b", uri),
+        keeps_of_origin(rt, "", uri),
+        keeps_of_origin(rt, "//#*//é=", value),
     ])
 }
 
-fn keeps_no_error(alloc: Global) -> Result<bool, AllocError> {
+fn keeps_no_error(rt: &HostRuntime) -> Result<bool, AllocError> {
     every(&[
-        keeps_of_origin(alloc, "localhost:3000", None),
-        keeps_of_origin(alloc, "/x", None),
+        keeps_of_origin(rt, "localhost:3000", None),
+        keeps_of_origin(rt, "/x", None),
     ])
 }
 
 #[test]
 fn refused_origins(rt: HostRuntime) -> Result<(), Fail> {
-    let alloc = rt.alloc();
-    hold(&rt, &[keeps_each_error(alloc), keeps_no_error(alloc)])
+    hold(&rt, &[keeps_each_error(&rt), keeps_no_error(&rt)])
 }
 
 #[test]
 fn the_first_error_is_kept(rt: HostRuntime) -> Result<(), Fail> {
     let calls = [Origin("*"), Expose(&["a:b"]), Methods(&["a b"])];
-    holds(
-        &rt,
-        keeps(rt.alloc(), &calls, Some(ConfigError::WildcardOrigin)),
-    )
+    let ask = Ask::Keeps(Some(ConfigError::WildcardOrigin));
+    holds(&rt, is_so_after(&rt, &calls, &ask))
 }
 
 fn made(alloc: Global, cors: &Cors<NoRule>) -> Made<NoRule> {
@@ -284,7 +239,8 @@ fn is_refused_for(made: &Made<NoRule>, error: ConfigError) -> Result<bool, Alloc
     }
 }
 
-fn is_refused_under(
+/// Whether no service is put under the policy, because of this error.
+pub(crate) fn is_refused_under(
     alloc: Global,
     cors: &Cors<NoRule>,
     error: ConfigError,
@@ -295,28 +251,10 @@ fn is_refused_under(
     shown
 }
 
-fn is_refused_by(alloc: Global, cors: &Built, error: ConfigError) -> Result<bool, AllocError> {
-    match cors {
-        Ok(cors) => is_refused_under(alloc, cors, error),
-        Err(error) => Err(*error),
-    }
-}
-
-// Whether no service is put under a policy after the calls, because of this error.
-fn is_refused(alloc: Global, calls: &[Call], error: ConfigError) -> Result<bool, AllocError> {
-    let cors = built(alloc, calls);
-    let shown = is_refused_by(alloc, &cors, error);
-    drop(cors);
-    shown
-}
-
 #[test]
 fn credentials_for_all_by_a_wildcard(rt: HostRuntime) -> Result<(), Fail> {
-    let calls = [Permissive, Wildcard];
-    holds(
-        &rt,
-        is_refused(rt.alloc(), &calls, ConfigError::IllegalCombination),
-    )
+    let ask = Ask::IsRefused(ConfigError::IllegalCombination);
+    holds(&rt, is_so_after(&rt, &[Permissive, Wildcard], &ask))
 }
 
 #[test]
@@ -330,7 +268,7 @@ fn what_a_builder_takes_is_written(rt: HostRuntime) -> Result<(), Fail> {
     let text =
         "HTTP/1.1 200 OK\r\ncontent-type: text/plain\r\naccess-control-allow-origin: https://a.example\r\naccess-control-expose-headers: x-a, x-b\r\naccess-control-allow-credentials: true\r\ncontent-length: 12\r\n\r\nHello world!";
     let fields = [("Origin", "https://a.example")];
-    answers(&rt, &calls, (Verb::Get, &fields), text)
+    holds(&rt, answers(&rt, &calls, (Verb::Get, &fields), text))
 }
 
 #[test]
@@ -338,11 +276,14 @@ fn the_service_itself_answers_a_preflight(rt: HostRuntime) -> Result<(), Fail> {
     let text =
         "HTTP/1.1 200 OK\r\ncontent-type: text/plain\r\naccess-control-expose-headers: content-type\r\nvary: Origin, Access-Control-Request-Method, Access-Control-Request-Headers\r\ncontent-length: 12\r\n\r\nHello world!";
     let fields = [("Access-Control-Request-Method", "GET")];
-    answers(
+    holds(
         &rt,
-        &[ExposeAny, NoPreflight],
-        (Verb::Options, &fields),
-        text,
+        answers(
+            &rt,
+            &[ExposeAny, NoPreflight],
+            (Verb::Options, &fields),
+            text,
+        ),
     )
 }
 
@@ -476,20 +417,6 @@ fn no_rule_allows(alloc: Global, origin: &[u8], asked: Asked) -> Result<bool, Al
     }
 }
 
-fn has_some_config_error(cors: &Built) -> Result<bool, AllocError> {
-    match cors {
-        Ok(cors) => Ok(cors.config_error().is_some()),
-        Err(error) => Err(*error),
-    }
-}
-
-fn has_config_error(alloc: Global, calls: &[Call]) -> Result<bool, AllocError> {
-    let cors = built(alloc, calls);
-    let shown = has_some_config_error(&cors);
-    drop(cors);
-    shown
-}
-
 #[test]
 fn no_rule_and_no_error(rt: HostRuntime) -> Result<(), Fail> {
     let alloc = rt.alloc();
@@ -498,7 +425,7 @@ fn no_rule_and_no_error(rt: HostRuntime) -> Result<(), Fail> {
         &rt,
         &[
             not(no_rule_allows(alloc, b"https://a.example", asked)),
-            not(has_config_error(alloc, &[])),
+            not(is_so_after(&rt, &[], &Ask::HasConfigError)),
         ],
     )
 }
@@ -630,27 +557,21 @@ fn is_made_ready(task: &MockTask, made: &Made<NoRule>) -> Result<bool, AllocErro
     }
 }
 
-fn is_ready_under(task: &MockTask, alloc: Global, cors: &Cors<NoRule>) -> Result<bool, AllocError> {
+/// Whether a service under the policy is ready.
+pub(crate) fn is_ready_under(
+    task: &MockTask,
+    alloc: Global,
+    cors: &Cors<NoRule>,
+) -> Result<bool, AllocError> {
     let made = made(alloc, cors);
     let shown = is_made_ready(task, &made);
     drop(made);
     shown
 }
 
-// Whether a service under the empty policy is ready.
-fn made_is_ready(task: &MockTask, alloc: Global) -> Result<bool, AllocError> {
-    let cors = Cors::default(alloc);
-    let shown = is_ready_under(task, alloc, &cors);
-    drop(cors);
-    shown
-}
-
 #[test]
 fn a_middleware_is_as_ready_as_its_service(rt: HostRuntime) -> Result<(), Fail> {
-    let task = MockTask::new(&rt)?;
-    let shown = made_is_ready(&task, rt.alloc());
-    drop(task);
-    holds(&rt, shown)
+    holds(&rt, is_so_after(&rt, &[], &Ask::IsReady))
 }
 
 #[test]
@@ -729,54 +650,10 @@ fn many_origins(alloc: Global) -> Built {
     Ok(cors)
 }
 
-// Whether the builder has no error, and this text answers a request.
-fn has_no_error_and_gives(
-    task: &MockTask,
-    alloc: Global,
-    cors: &Cors<NoRule>,
-    asked: Asked,
-    text: &str,
-) -> Result<bool, AllocError> {
-    every(&[
-        Ok(cors.error().is_none()),
-        is_answered(task, alloc, cors, asked, text),
-    ])
-}
-
-fn has_no_error_and_gives_under(
-    task: &MockTask,
-    alloc: Global,
-    cors: &Built,
-    asked: Asked,
-    text: &str,
-) -> Result<bool, AllocError> {
-    match cors {
-        Ok(cors) => has_no_error_and_gives(task, alloc, cors, asked, text),
-        Err(error) => Err(*error),
-    }
-}
-
-fn many_origins_give(
-    task: &MockTask,
-    alloc: Global,
-    asked: Asked,
-    text: &str,
-) -> Result<bool, AllocError> {
-    let cors = many_origins(alloc);
-    let shown = has_no_error_and_gives_under(task, alloc, &cors, asked, text);
-    drop(cors);
-    shown
-}
-
-// A thousand origins are taken without an error, and this text then answers a request.
-fn many_origins_answer<R>(rt: &R, asked: Asked, text: &str) -> Result<(), Fail>
-where
-    R: RandomSource + AllocGlobal + Abort,
-{
-    let task = MockTask::new(rt)?;
-    let shown = many_origins_give(&task, rt.alloc(), asked, text);
-    drop(task);
-    holds(rt, shown)
+// Whether a thousand origins are taken without an error, and this text then answers a request.
+fn many_origins_answer(rt: &HostRuntime, asked: Asked, text: &str) -> Result<bool, AllocError> {
+    let ask = Ask::AnswersWithoutError(asked, text);
+    is_so(rt, many_origins(rt.alloc()), &ask)
 }
 
 #[test]
@@ -784,7 +661,7 @@ fn the_last_of_a_thousand_origins_is_granted(rt: HostRuntime) -> Result<(), Fail
     let fields = [("Origin", "https://host-999.example")];
     let text =
         "HTTP/1.1 200 OK\r\ncontent-type: text/plain\r\naccess-control-allow-origin: https://host-999.example\r\nvary: Origin, Access-Control-Request-Method, Access-Control-Request-Headers\r\ncontent-length: 12\r\n\r\nHello world!";
-    many_origins_answer(&rt, (Verb::Get, &fields), text)
+    holds(&rt, many_origins_answer(&rt, (Verb::Get, &fields), text))
 }
 
 #[test]
@@ -792,5 +669,5 @@ fn none_beyond_a_thousand_origins_is_granted(rt: HostRuntime) -> Result<(), Fail
     let fields = [("Origin", "https://host-1000.example")];
     let text =
         "HTTP/1.1 200 OK\r\ncontent-type: text/plain\r\nvary: Origin, Access-Control-Request-Method, Access-Control-Request-Headers\r\ncontent-length: 12\r\n\r\nHello world!";
-    many_origins_answer(&rt, (Verb::Get, &fields), text)
+    holds(&rt, many_origins_answer(&rt, (Verb::Get, &fields), text))
 }

@@ -1,13 +1,13 @@
 //! Worked requests, after the tests and the documents of the crate actix-cors.
-use crate::asking::{Asked, Verb, answers};
+use crate::asking::{Asked, Verb};
+use crate::asks::answers;
 use crate::building::Call;
 use crate::building::Call::{
     Age, AnyHeader, AnyMethod, AnyOrigin, Block, Header, Headers, Methods, Origin, Permissive,
     Wildcard,
 };
-use std::alloc::AllocGlobal;
-use std::process::Abort;
-use std::random::RandomSource;
+use crate::shown::holds;
+use std::alloc::AllocError;
 use std::test::Fail;
 
 #[test]
@@ -15,7 +15,7 @@ fn everything_is_allowed(rt: HostRuntime) -> Result<(), Fail> {
     let fields = [("Origin", "https://a.example")];
     let text =
         "HTTP/1.1 200 OK\r\ncontent-type: text/plain\r\naccess-control-allow-origin: https://a.example\r\naccess-control-expose-headers: access-control-allow-origin, content-type\r\naccess-control-allow-credentials: true\r\nvary: Origin, Access-Control-Request-Method, Access-Control-Request-Headers\r\ncontent-length: 12\r\n\r\nHello world!";
-    answers(&rt, &[Permissive], (Verb::Get, &fields), text)
+    holds(&rt, answers(&rt, &[Permissive], (Verb::Get, &fields), text))
 }
 
 // Every origin, as `*`, three methods and three headers.
@@ -28,10 +28,7 @@ const WILDCARD: [Call; 6] = [
     Header("content-type"),
 ];
 
-fn answers_by_wildcard<R>(rt: &R, asked: Asked, text: &str) -> Result<(), Fail>
-where
-    R: RandomSource + AllocGlobal + Abort,
-{
+fn answers_by_wildcard(rt: &HostRuntime, asked: Asked, text: &str) -> Result<bool, AllocError> {
     answers(rt, &WILDCARD, asked, text)
 }
 
@@ -44,7 +41,10 @@ fn a_preflight_with_a_wildcard(rt: HostRuntime) -> Result<(), Fail> {
     ];
     let text =
         "HTTP/1.1 200 OK\r\naccess-control-allow-origin: *\r\naccess-control-allow-methods: GET, OPTIONS, POST\r\naccess-control-allow-headers: accept, authorization, content-type\r\naccess-control-max-age: 3600\r\nvary: Origin, Access-Control-Request-Method, Access-Control-Request-Headers\r\ncontent-length: 0\r\n\r\n";
-    answers_by_wildcard(&rt, (Verb::Options, &fields), text)
+    holds(
+        &rt,
+        answers_by_wildcard(&rt, (Verb::Options, &fields), text),
+    )
 }
 
 #[test]
@@ -55,7 +55,10 @@ fn a_preflight_for_another_method(rt: HostRuntime) -> Result<(), Fail> {
     ];
     let text =
         "HTTP/1.1 400 Bad Request\r\ncontent-length: 31\r\n\r\nRequested method is not allowed";
-    answers_by_wildcard(&rt, (Verb::Options, &fields), text)
+    holds(
+        &rt,
+        answers_by_wildcard(&rt, (Verb::Options, &fields), text),
+    )
 }
 
 #[test]
@@ -66,16 +69,16 @@ fn a_request_that_asks_for_no_method_is_no_preflight(rt: HostRuntime) -> Result<
     ];
     let text =
         "HTTP/1.1 200 OK\r\ncontent-type: text/plain\r\naccess-control-allow-origin: *\r\nvary: Origin, Access-Control-Request-Method, Access-Control-Request-Headers\r\ncontent-length: 12\r\n\r\nHello world!";
-    answers_by_wildcard(&rt, (Verb::Options, &fields), text)
+    holds(
+        &rt,
+        answers_by_wildcard(&rt, (Verb::Options, &fields), text),
+    )
 }
 
 // One origin, and all others are refused.
 const BLOCKING: [Call; 2] = [Origin("https://a.example"), Block];
 
-fn answers_blocking<R>(rt: &R, asked: Asked, text: &str) -> Result<(), Fail>
-where
-    R: RandomSource + AllocGlobal + Abort,
-{
+fn answers_blocking(rt: &HostRuntime, asked: Asked, text: &str) -> Result<bool, AllocError> {
     answers(rt, &BLOCKING, asked, text)
 }
 
@@ -83,7 +86,7 @@ where
 fn a_request_without_an_origin_is_not_blocked(rt: HostRuntime) -> Result<(), Fail> {
     let text =
         "HTTP/1.1 200 OK\r\ncontent-type: text/plain\r\nvary: Origin, Access-Control-Request-Method, Access-Control-Request-Headers\r\ncontent-length: 12\r\n\r\nHello world!";
-    answers_blocking(&rt, (Verb::Get, &[]), text)
+    holds(&rt, answers_blocking(&rt, (Verb::Get, &[]), text))
 }
 
 #[test]
@@ -91,7 +94,7 @@ fn another_origin_is_blocked(rt: HostRuntime) -> Result<(), Fail> {
     let fields = [("Origin", "https://b.example")];
     let text =
         "HTTP/1.1 400 Bad Request\r\nvary: Origin, Access-Control-Request-Method, Access-Control-Request-Headers\r\ncontent-length: 42\r\n\r\nOrigin is not allowed to make this request";
-    answers_blocking(&rt, (Verb::Get, &fields), text)
+    holds(&rt, answers_blocking(&rt, (Verb::Get, &fields), text))
 }
 
 #[test]
@@ -99,7 +102,7 @@ fn an_allowed_origin_is_not_blocked(rt: HostRuntime) -> Result<(), Fail> {
     let fields = [("Origin", "https://a.example")];
     let text =
         "HTTP/1.1 200 OK\r\ncontent-type: text/plain\r\naccess-control-allow-origin: https://a.example\r\nvary: Origin, Access-Control-Request-Method, Access-Control-Request-Headers\r\ncontent-length: 12\r\n\r\nHello world!";
-    answers_blocking(&rt, (Verb::Get, &fields), text)
+    holds(&rt, answers_blocking(&rt, (Verb::Get, &fields), text))
 }
 
 const ASKED: [(&str, &str); 3] = [
@@ -108,10 +111,7 @@ const ASKED: [(&str, &str); 3] = [
     ("Access-Control-Request-Headers", "a,,b"),
 ];
 
-fn answers_asked<R>(rt: &R, calls: &[Call], text: &str) -> Result<(), Fail>
-where
-    R: RandomSource + AllocGlobal + Abort,
-{
+fn answers_asked(rt: &HostRuntime, calls: &[Call], text: &str) -> Result<bool, AllocError> {
     answers(rt, calls, (Verb::Options, &ASKED), text)
 }
 
@@ -120,7 +120,7 @@ fn an_empty_name_is_asked_for(rt: HostRuntime) -> Result<(), Fail> {
     let calls = [AnyOrigin, AnyMethod, Headers(&["a"])];
     let text =
         "HTTP/1.1 400 Bad Request\r\ncontent-length: 68\r\n\r\nRequest header `Access-Control-Request-Headers` has an invalid value";
-    answers_asked(&rt, &calls, text)
+    holds(&rt, answers_asked(&rt, &calls, text))
 }
 
 #[test]
@@ -128,5 +128,5 @@ fn asked_headers_are_echoed(rt: HostRuntime) -> Result<(), Fail> {
     let calls = [AnyOrigin, AnyMethod, AnyHeader];
     let text =
         "HTTP/1.1 200 OK\r\naccess-control-allow-origin: https://a.example\r\naccess-control-allow-methods: CONNECT, DELETE, GET, HEAD, OPTIONS, PATCH, POST, PUT, TRACE\r\naccess-control-allow-headers: a,,b\r\nvary: Origin, Access-Control-Request-Method, Access-Control-Request-Headers\r\ncontent-length: 0\r\n\r\n";
-    answers_asked(&rt, &calls, text)
+    holds(&rt, answers_asked(&rt, &calls, text))
 }

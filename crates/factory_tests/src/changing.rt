@@ -1,172 +1,129 @@
-//! Factories that change what their parts make, whatever the parts.
+//! Factories and pipelines that change what their parts make.
 
-use crate::asking::{Order, built_and_copied, built_shows};
+use crate::asking::built_shows;
+use crate::makers::Maker;
 use crate::making::Asked;
-use crate::naming::{excuse, failure, half, ok_of};
-use crate::words::{Denial, Failure, Fault};
+use crate::naming::{excuse, failure, half_ok, one_more};
+use crate::words::{Denial, Failure, Fault, Settings, stepping};
 use service_combine::{PipelineFactory, ServiceFactoryExt, pipeline_factory};
 use service_core::ServiceFactory;
 use std::alloc::{AllocError, AllocGlobal};
 
-/// Whether a factory whose responses become a text shows what it has to.
-pub(crate) fn mapped<A>(
-    rt: &HostRuntime,
-    factory: A,
-    order: &Order<u32>,
-    asked: &Asked<(), &'static str, Fault, Denial>,
-) -> Result<bool, AllocError>
-where
-    A: ServiceFactory<
-        (),
-        Config = u32,
-        Response = (),
-        Error = Fault,
-        Service: Drop,
-        InitError = Denial,
-    >
-        + Clone
-        + Drop,
-    requires factory { (made : _) → A.can_make made }
-{
-    let mapped = ServiceFactoryExt::map(factory, rt.alloc(), ok_of);
-    built_and_copied(rt, mapped, order, asked)
-}
+/// What is asked where each response is half of a number, and a text.
+pub(crate) type AskedHalf = Asked<u32, (u32, &'static str), Fault, Denial>;
+
+/// What is asked where the services' errors are changed.
+pub(crate) type AskedFailing = Asked<u32, u32, Failure, Denial>;
+
+/// What is asked where what comes in place of a service is changed.
+pub(crate) type AskedExcused = Asked<u32, u32, Fault, Failure>;
 
 /// Whether a factory whose responses are halved shows what it has to.
-pub(crate) fn halved<A>(
+pub(crate) fn halves(
     rt: &HostRuntime,
-    factory: A,
-    order: &Order<u32>,
-    asked: &Asked<u32, u32, Fault, Denial>,
-) -> Result<bool, AllocError>
-where
-    A: ServiceFactory<
-        u32,
-        Config = u32,
-        Response = u32,
-        Error = Fault,
-        Service: Drop,
-        InitError = Denial,
-    >
-        + Clone
-        + Drop,
-    requires factory { (made : _) → A.can_make made }
-{
-    let mapped = ServiceFactoryExt::map(factory, rt.alloc(), half);
-    built_and_copied(rt, mapped, order, asked)
+    factory: Maker,
+    cfg: &Settings,
+    asked: &AskedHalf,
+) -> Result<bool, AllocError> {
+    let halves = ServiceFactoryExt::<u32>::map(factory, rt.alloc(), half_ok);
+    built_shows(rt, halves, cfg, asked)
 }
 
 /// Whether a factory whose services' errors are changed shows what it has to.
-pub(crate) fn renamed<A, Req>(
+pub(crate) fn renames(
     rt: &HostRuntime,
-    factory: A,
-    order: &Order<u32>,
-    asked: &Asked<Req, Req, Failure, Denial>,
-) -> Result<bool, AllocError>
-where
-    Req: Copy + PartialEq + Drop,
-    A: ServiceFactory<
-        Req,
-        Config = u32,
-        Response = Req,
-        Error = Fault,
-        Service: Drop,
-        InitError = Denial,
-    >
-        + Clone
-        + Drop,
-    requires factory { (made : _) → A.can_make made }
-{
-    let renamed = ServiceFactoryExt::map_err(factory, rt.alloc(), failure);
-    built_and_copied(rt, renamed, order, asked)
+    factory: Maker,
+    cfg: &Settings,
+    asked: &AskedFailing,
+) -> Result<bool, AllocError> {
+    let renames = ServiceFactoryExt::<u32>::map_err(factory, rt.alloc(), failure);
+    built_shows(rt, renames, cfg, asked)
 }
 
 /// Whether a factory whose own errors are changed shows what it has to.
-pub(crate) fn excused<A>(
+pub(crate) fn excuses(
     rt: &HostRuntime,
-    factory: A,
-    order: &Order<u32>,
-    asked: &Asked<u32, u32, Fault, Failure>,
-) -> Result<bool, AllocError>
-where
-    A: ServiceFactory<
-        u32,
-        Config = u32,
-        Response = u32,
-        Error = Fault,
-        Service: Drop,
-        InitError = Denial,
-    >
-        + Clone
-        + Drop,
-    requires factory { (made : _) → A.can_make made }
-{
-    let excused = ServiceFactoryExt::map_init_err(factory, rt.alloc(), excuse);
-    built_and_copied(rt, excused, order, asked)
+    factory: Maker,
+    cfg: &Settings,
+    asked: &AskedExcused,
+) -> Result<bool, AllocError> {
+    let excuses = ServiceFactoryExt::<u32>::map_init_err(factory, rt.alloc(), excuse);
+    built_shows(rt, excuses, cfg, asked)
 }
 
-/// Whether a pipeline that is mapped shows what it has to.
-pub(crate) fn mapped_pipeline<A>(
+/// A pipeline of one part.
+pub(crate) fn pipeline(factory: Maker) -> PipelineFactory<Maker, u32> {
+    pipeline_factory(factory)
+}
+
+/// Whether a pipeline whose responses are halved shows what it has to.
+pub(crate) fn pipeline_halves(
     rt: &HostRuntime,
-    factory: A,
-    asked: &Asked<(), &'static str, Fault, Denial>,
-) -> Result<bool, AllocError>
-where
-    A: ServiceFactory<
-        (),
-        Config = u32,
-        Response = (),
-        Error = Fault,
-        Service: Drop,
-        InitError = Denial,
-    >
-        + Drop,
-    requires { A.can_make factory }
-{
-    let chain: PipelineFactory<A, ()> = pipeline_factory(factory);
-    built_shows(rt, chain.map(rt.alloc(), ok_of), &1, asked)
+    factory: Maker,
+    asked: &AskedHalf,
+) -> Result<bool, AllocError> {
+    let halves = pipeline(factory).map(rt.alloc(), half_ok);
+    built_shows(rt, halves, &stepping(1), asked)
 }
 
 /// Whether a pipeline whose services' errors are changed shows what it has to.
-pub(crate) fn renamed_pipeline<A>(
+pub(crate) fn pipeline_renames(
     rt: &HostRuntime,
-    factory: A,
-    asked: &Asked<(), (), Failure, Denial>,
-) -> Result<bool, AllocError>
-where
-    A: ServiceFactory<
-        (),
-        Config = u32,
-        Response = (),
-        Error = Fault,
-        Service: Drop,
-        InitError = Denial,
-    >
-        + Drop,
-    requires { A.can_make factory }
-{
-    let chain: PipelineFactory<A, ()> = pipeline_factory(factory);
-    built_shows(rt, chain.map_err(rt.alloc(), failure), &1, asked)
+    factory: Maker,
+    asked: &AskedFailing,
+) -> Result<bool, AllocError> {
+    let renames = pipeline(factory).map_err(rt.alloc(), failure);
+    built_shows(rt, renames, &stepping(1), asked)
 }
 
 /// Whether a pipeline whose own errors are changed shows what it has to.
-pub(crate) fn excused_pipeline<A>(
+pub(crate) fn pipeline_excuses<F>(
     rt: &HostRuntime,
-    factory: A,
-    asked: &Asked<u32, u32, Fault, Failure>,
+    chain: Result<PipelineFactory<F, u32>, AllocError>,
+    cfg: &Settings,
+    asked: &AskedExcused,
 ) -> Result<bool, AllocError>
 where
-    A: ServiceFactory<
+    F: ServiceFactory<
         u32,
-        Config = u32,
+        Config = Settings,
         Response = u32,
         Error = Fault,
-        Service: Drop,
         InitError = Denial,
+        Service: Drop,
     >
+        + Clone
         + Drop,
-    requires { A.can_make factory }
+    requires factory { (made : _) → F.can_make made }
 {
-    let chain: PipelineFactory<A, u32> = pipeline_factory(factory);
-    built_shows(rt, chain.map_init_err(rt.alloc(), excuse), &1, asked)
+    match chain {
+        Ok(chain) => built_shows(rt, chain.map_init_err(rt.alloc(), excuse), cfg, asked),
+        Err(_) => Err(AllocError),
+    }
+}
+
+/// Whether a pipeline shows what it has to with one more for each response, and its errors in the program's own type.
+pub(crate) fn pipeline_adds_one<F>(
+    rt: &HostRuntime,
+    chain: Result<PipelineFactory<F, u32>, AllocError>,
+    cfg: &Settings,
+    asked: &AskedExcused,
+) -> Result<bool, AllocError>
+where
+    F: ServiceFactory<
+        u32,
+        Config = Settings,
+        Response = u32,
+        Error = Fault,
+        InitError = Denial,
+        Service: Drop,
+    >
+        + Clone
+        + Drop,
+    requires factory { (made : _) → F.can_make made }
+{
+    match chain {
+        Ok(chain) => pipeline_excuses(rt, chain.map(rt.alloc(), one_more), cfg, asked),
+        Err(_) => Err(AllocError),
+    }
 }

@@ -1,42 +1,22 @@
 //! Programs over factories that take a configuration.
-ghost use Rattle.std.specs.Prelude.{◌≡◌};
 
-use crate::asking::{both, built_shows};
-use crate::limits::{Limited, Tallying};
-use crate::making::Asked;
-use crate::naming::adding;
+use crate::asking::{built_shows, shows};
+use crate::making::{Asked, both};
+use crate::naming::{adding, limited, step_of};
+use crate::pairing::AskedNumber;
+use crate::services::{Limited, Serving, digit, service_of};
 use crate::shown::{hold, holds};
-use crate::words::{Again, Denial, Fault};
-use futures::Future;
-use service_combine::{apply_cfg, fn_factory_with_config, map_config};
-use service_core::{Ready, ServiceFactory, err, ok};
+use crate::words::{Denial, Fault, Settings, stepping};
+use service_combine::{ApplyConfigService, apply_cfg, fn_factory_with_config, map_config};
+use service_core::ServiceFactory;
 use std::alloc::{AllocError, AllocGlobal};
-use std::cell::Cell;
 use std::rc::Rc;
 use std::test::Fail;
-
-/// The settings of a program.
-#[derive(Clone, Copy, Drop)]
-struct Settings {
-    step: u32,
-    is_on: bool,
-}
-
-impl Again for Settings {
-    fn again(&self) -> Settings {
-        *self
-    }
-}
-
-// The step of the settings, if they are on.
-fn step_of(settings: Settings) -> u32 {
-    if settings.is_on { settings.step } else { 0 }
-}
 
 // Whether a factory over a part of the settings makes a service that answers so to 7.
 fn serves_by_settings<F>(
     rt: &HostRuntime,
-    makes: F,
+    makes: Result<F, AllocError>,
     settings: &Settings,
     answer: u32,
 ) -> Result<bool, AllocError>
@@ -49,11 +29,17 @@ where
         InitError = Denial,
         Service: Drop,
     >
+        + Clone
         + Drop,
-    requires { F.can_make makes }
+    requires makes { (made : _) → F.can_make made }
 {
-    let factory = map_config(rt.alloc(), makes, step_of);
-    built_shows(rt, factory, settings, &Asked::Served(7, Ok(answer)))
+    match makes {
+        Ok(makes) => {
+            let factory = map_config(rt.alloc(), makes, step_of);
+            built_shows(rt, factory, settings, &Asked::Served(7, Ok(answer)))
+        }
+        Err(_) => Err(AllocError),
+    }
 }
 
 // Whether a service that adds as the settings say answers so to 7.
@@ -62,67 +48,57 @@ fn adds_by_settings(
     settings: &Settings,
     answer: u32,
 ) -> Result<bool, AllocError> {
-    let makes = fn_factory_with_config(rt.alloc(), adding)?;
+    let makes = fn_factory_with_config(rt.alloc(), adding);
     serves_by_settings(rt, makes, settings, answer)
 }
 
 #[test]
 fn a_service_is_made_of_its_part_of_the_settings(rt: HostRuntime) -> Result<(), Fail> {
-    let three = Settings {
-        step: 3,
-        is_on: true,
-    };
-    let four = Settings {
-        step: 4,
-        is_on: true,
-    };
     let off = Settings {
-        step: 4,
         is_on: false,
+        ..stepping(4)
     };
     hold(
         &rt,
         &[
-            adds_by_settings(&rt, &three, 10),
-            adds_by_settings(&rt, &four, 11),
+            adds_by_settings(&rt, &stepping(3), 10),
+            adds_by_settings(&rt, &stepping(4), 11),
             adds_by_settings(&rt, &off, 7),
         ],
     )
 }
 
-// A service with the limit, over a shared one.
-fn limited(limit: u32, shared: &Rc<Tallying>) -> Ready<Result<Limited, Denial>>
-    ensures { ⟦<Ready<Result<Limited, Denial>> as Future>⟧.can_poll result }
-{
-    match shared.clone() {
-        Ok(service) => ok(Limited { limit, service }),
-        Err(_) => err(Denial::Memory),
-    }
-}
-
 // Whether a service says so that is made of a limit, over another.
 fn limits(
     rt: &HostRuntime,
-    service: Rc<Tallying>,
+    service: Rc<Serving>,
     limit: u32,
-    asked: &Asked<u32, u32, Fault, Denial>,
+    asked: &AskedNumber,
 ) -> Result<bool, AllocError> {
-    built_shows(rt, apply_cfg(rt.alloc(), service, limited), &limit, asked)
+    let made: Result<ApplyConfigService<_, u32, _, Settings, _, Limited, Denial>, _> = apply_cfg(
+        rt.alloc(),
+        service,
+        limited,
+    );
+    match made {
+        Ok(made) => shows(rt, &made, stepping(limit), asked),
+        Err(_) => Err(AllocError),
+    }
 }
 
 // Whether a service says so that is made of a limit, over a shared one.
 fn under_a_limit(
     rt: &HostRuntime,
-    shared: &Rc<Tallying>,
+    shared: &Rc<Serving>,
     limit: u32,
-    asked: &Asked<u32, u32, Fault, Denial>,
+    asked: &AskedNumber,
 ) -> Result<bool, AllocError> {
     let service = shared.clone()?;
     limits(rt, service, limit, asked)
 }
 
 // Whether services of two limits answer so over a shared one.
-fn keep_their_limits(rt: &HostRuntime, shared: &Rc<Tallying>) -> Result<bool, AllocError> {
+fn keep_their_limits(rt: &HostRuntime, shared: &Rc<Serving>) -> Result<bool, AllocError> {
     let below = under_a_limit(rt, shared, 10, &Asked::Served(7, Ok(8)));
     let at = under_a_limit(rt, shared, 10, &Asked::Served(10, Ok(11)));
     let above = under_a_limit(rt, shared, 10, &Asked::Served(11, Err(Fault::Bad)));
@@ -132,10 +108,7 @@ fn keep_their_limits(rt: &HostRuntime, shared: &Rc<Tallying>) -> Result<bool, Al
 
 // Whether services of two limits answer so, and call the shared one so often.
 fn call_the_shared_one(rt: &HostRuntime, calls: u32) -> Result<bool, AllocError> {
-    let tallying = Tallying {
-        calls: Cell::new(0),
-    };
-    let shared = Rc::new(rt.alloc(), tallying)?;
+    let shared = Rc::new(rt.alloc(), service_of(digit(1, 1)))?;
     let kept = keep_their_limits(rt, &shared);
     both(kept, Ok(shared.calls.get() == calls))
 }

@@ -19,8 +19,6 @@ mod factory_programs;
 #[cfg(test)]
 mod factory_tests;
 #[cfg(test)]
-mod limits;
-#[cfg(test)]
 mod makers;
 #[cfg(test)]
 mod making;
@@ -38,8 +36,6 @@ mod refusal_tests;
 mod services;
 #[cfg(test)]
 mod shown;
-#[cfg(test)]
-mod startup;
 #[cfg(test)]
 mod transform_tests;
 #[cfg(test)]

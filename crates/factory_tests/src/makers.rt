@@ -1,14 +1,13 @@
-//! Factories of the tests.
+//! The factories of the tests.
 ghost use Rattle.std.specs.Prelude.{⊤};
 ghost use Rattle.service_core.specs.Meaning.{GivesOnly};
 
-use crate::services::{Adding, Awaking, Echo, Scoring, Tagging, Telling};
-use crate::words::{Denial, Fault, Mark, Word};
+use crate::services::{Kind, Number, Serving, echo, service_of};
+use crate::words::{Configures, Denial, Fault, Settings};
 use futures::Future;
 use futures::task::{Context, Poll};
-use service_core::{Ready, Service, ServiceFactory, Transform, err, ok};
+use service_core::{Ready, ServiceFactory, ready};
 use std::alloc::AllocError;
-use std::cell::Cell;
 use std::marker::PhantomData;
 
 /// A future that begins after some polls.
@@ -34,97 +33,68 @@ impl<F: Future> Future for Late<F> {
     }
 }
 
-/// Makes copies of a service, whatever the configuration, after some polls.
+/// Makes services of a kind after some polls, to whose steps the configuration adds its own, or none.
 #[derive(Drop)]
-pub(crate) struct Copying<S, C> {
-    pub(crate) service: S,
-    pub(crate) waits: u32,
-    pub(crate) config: PhantomData<C>,
+pub(crate) struct Makes<C> {
+    kind: Kind,
+    waits: u32,
+    denial: Option<Denial>,
+    config: PhantomData<C>,
 }
 
-impl<S: Copy, C> Clone for Copying<S, C> {
+/// The factory of settings.
+pub(crate) type Maker = Makes<Settings>;
+
+impl<C> Clone for Makes<C> {
     ghost is_clone = { λ _ _. ⊤ };
 
-    fn clone(&self) -> Result<Copying<S, C>, AllocError> {
-        Ok(copies_late(self.waits, self.service))
-    }
-}
-
-impl<S: Service<Req> + Copy + Drop, C: Drop, Req> ServiceFactory<Req> for Copying<S, C> {
-    type Response = S::Response;
-
-    type Error = S::Error;
-
-    type Config = C;
-
-    type Service = S;
-
-    type InitError = Denial;
-
-    type Future = Late<Ready<Result<S, Denial>>>;
-
-    ghost can_make = { λ f. S.can_call f.service };
-
-    ghost may = { λ f _. S.may f.service };
-
-    ghost may_ready = { λ f _. S.may_ready f.service };
-
-    ghost may_begin = { λ f _. S.may_begin f.service };
-
-    ghost may_init = { λ _ _ _. ⊤ };
-
-    ghost may_make = { λ _ _. ⊤ };
-
-    ghost begun_gives = { λ f _. S.begun_gives f.service };
-
-    fn new_service(&self, _cfg: C) -> Late<Ready<Result<S, Denial>>> {
-        Late {
+    fn clone(&self) -> Result<Makes<C>, AllocError> {
+        Ok(Makes {
+            kind: self.kind,
             waits: self.waits,
-            future: ok(self.service),
-        }
+            denial: self.denial,
+            config: PhantomData,
+        })
     }
 }
 
-/// A factory that makes copies of a service at once.
-pub(crate) fn copies<S, C>(service: S) -> Copying<S, C> {
-    copies_late(0, service)
+// A service of the kind, with a step more.
+fn stepped(kind: Kind, step: u32) -> Serving {
+    service_of(Kind {
+        step: kind.step.wrapping_add(step),
+        ..kind
+    })
 }
 
-/// A factory that makes copies of a service after some polls.
-pub(crate) fn copies_late<S, C>(waits: u32, service: S) -> Copying<S, C> {
-    Copying {
-        service,
-        waits,
-        config: PhantomData,
+// What comes of a making: nothing where it is denied, or where there is no step.
+fn outcome(kind: Kind, denial: Option<Denial>, step: Option<u32>) -> Result<Serving, Denial> {
+    match denial {
+        Some(denial) => Err(denial),
+        None => match step {
+            Some(step) => Ok(stepped(kind, step)),
+            None => Err(Denial::Second),
+        },
     }
 }
 
-/// Makes no service, and says so after some polls.
-#[derive(Drop)]
-pub(crate) struct Denying<C> {
-    pub(crate) denial: Denial,
-    pub(crate) waits: u32,
-    pub(crate) config: PhantomData<C>,
-}
-
-impl<C: Drop, T: Drop> ServiceFactory<T> for Denying<C> {
-    type Response = T;
+impl<C: Configures, T: Number> ServiceFactory<T> for Makes<C> {
+    type Response = u32;
 
     type Error = Fault;
 
     type Config = C;
 
-    type Service = Echo;
+    type Service = Serving;
 
     type InitError = Denial;
 
-    type Future = Late<Ready<Result<Echo, Denial>>>;
+    type Future = Late<Ready<Result<Serving, Denial>>>;
 
     ghost may = { λ _ _ _ _. ⊤ };
 
     ghost may_ready = { λ _ _ _. ⊤ };
 
-    ghost may_begin = { λ _ _ _ f. GivesOnly ⟦<Ready<Result<T, Fault>> as Future>⟧ f (λ _. ⊤) };
+    ghost may_begin = { λ _ _ _ f. GivesOnly ⟦<Ready<Result<u32, Fault>> as Future>⟧ f (λ _. ⊤) };
 
     ghost may_init = { λ _ _ _. ⊤ };
 
@@ -132,288 +102,35 @@ impl<C: Drop, T: Drop> ServiceFactory<T> for Denying<C> {
 
     ghost begun_gives = { λ s c q f h. h };
 
-    fn new_service(&self, _cfg: C) -> Late<Ready<Result<Echo, Denial>>> {
+    fn new_service(&self, cfg: C) -> Late<Ready<Result<Serving, Denial>>> {
         Late {
             waits: self.waits,
-            future: err(self.denial),
+            future: ready(outcome(self.kind, self.denial, cfg.step())),
         }
     }
 }
 
-impl<C> Clone for Denying<C> {
-    ghost is_clone = { λ _ _. ⊤ };
-
-    fn clone(&self) -> Result<Denying<C>, AllocError> {
-        Ok(denies_late(self.waits, self.denial))
-    }
+/// A factory that makes services of the kind at once.
+pub(crate) fn made_at_once<C>(kind: Kind) -> Makes<C> {
+    made_late(0, kind)
 }
 
-/// A factory that makes no service.
-pub(crate) fn denies<C>(denial: Denial) -> Denying<C> {
-    denies_late(0, denial)
+/// A factory that makes services of the kind after some polls.
+pub(crate) fn made_late<C>(waits: u32, kind: Kind) -> Makes<C> {
+    Makes {
+        kind,
+        waits,
+        denial: None,
+        config: PhantomData,
+    }
 }
 
 /// A factory that makes no service, and says so after some polls.
-pub(crate) fn denies_late<C>(waits: u32, denial: Denial) -> Denying<C> {
-    Denying {
-        denial,
+pub(crate) fn denies<C>(waits: u32, denial: Denial) -> Makes<C> {
+    Makes {
+        kind: echo(),
         waits,
+        denial: Some(denial),
         config: PhantomData,
-    }
-}
-
-/// Makes services that answer with the word of their configuration.
-#[derive(Drop)]
-pub(crate) struct Tags;
-
-impl<T: Drop> ServiceFactory<T> for Tags {
-    type Response = (T, Word);
-
-    type Error = Fault;
-
-    type Config = Mark;
-
-    type Service = Tagging;
-
-    type InitError = Denial;
-
-    type Future = Ready<Result<Tagging, Denial>>;
-
-    ghost may = { λ _ _ _ _. ⊤ };
-
-    ghost may_ready = { λ _ _ _. ⊤ };
-
-    ghost may_begin = { λ _ _ _ f. GivesOnly ⟦<Ready<Result<(T, Word), Fault>> as Future>⟧ f (λ _. ⊤) };
-
-    ghost may_init = { λ _ _ _. ⊤ };
-
-    ghost may_make = { λ _ _. ⊤ };
-
-    ghost begun_gives = { λ s c q f h. h };
-
-    fn new_service(&self, cfg: Mark) -> Ready<Result<Tagging, Denial>> {
-        ok(Tagging { tag: cfg.word })
-    }
-}
-
-/// Makes services that add their configuration, which is not 0.
-#[derive(Clone, Copy, Drop)]
-pub(crate) struct Steps;
-
-impl ServiceFactory<u32> for Steps {
-    type Response = u32;
-
-    type Error = Fault;
-
-    type Config = u32;
-
-    type Service = Adding;
-
-    type InitError = Denial;
-
-    type Future = Ready<Result<Adding, Denial>>;
-
-    ghost may = { λ _ _ _ _. ⊤ };
-
-    ghost may_ready = { λ _ _ _. ⊤ };
-
-    ghost may_begin = { λ _ _ _ f. GivesOnly ⟦<Ready<Result<u32, Fault>> as Future>⟧ f (λ _. ⊤) };
-
-    ghost may_init = { λ _ _ _. ⊤ };
-
-    ghost may_make = { λ _ _. ⊤ };
-
-    ghost begun_gives = { λ s c q f h. h };
-
-    fn new_service(&self, cfg: u32) -> Ready<Result<Adding, Denial>> {
-        if cfg == 0 {
-            err(Denial::Second)
-        } else {
-            ok(Adding { step: cfg })
-        }
-    }
-}
-
-/// Makes services that tell their configuration.
-#[derive(Clone, Copy, Drop)]
-pub(crate) struct Tells;
-
-impl ServiceFactory<()> for Tells {
-    type Response = u32;
-
-    type Error = Fault;
-
-    type Config = u32;
-
-    type Service = Telling<u32>;
-
-    type InitError = Denial;
-
-    type Future = Ready<Result<Telling<u32>, Denial>>;
-
-    ghost may = { λ _ _ _ _. ⊤ };
-
-    ghost may_ready = { λ _ _ _. ⊤ };
-
-    ghost may_begin = { λ _ _ _ f. GivesOnly ⟦<Ready<Result<u32, Fault>> as Future>⟧ f (λ _. ⊤) };
-
-    ghost may_init = { λ _ _ _. ⊤ };
-
-    ghost may_make = { λ _ _. ⊤ };
-
-    ghost begun_gives = { λ s c q f h. h };
-
-    fn new_service(&self, cfg: u32) -> Ready<Result<Telling<u32>, Denial>> {
-        ok(Telling { value: cfg })
-    }
-}
-
-/// Makes services that are ready at the third poll.
-#[derive(Drop)]
-pub(crate) struct Wakes;
-
-impl ServiceFactory<u32> for Wakes {
-    type Response = u32;
-
-    type Error = Fault;
-
-    type Config = ();
-
-    type Service = Awaking;
-
-    type InitError = Denial;
-
-    type Future = Ready<Result<Awaking, Denial>>;
-
-    ghost may = { λ _ _ _ _. ⊤ };
-
-    ghost may_ready = { λ _ _ _. ⊤ };
-
-    ghost may_begin = { λ _ _ _ f. GivesOnly ⟦<Ready<Result<u32, Fault>> as Future>⟧ f (λ _. ⊤) };
-
-    ghost may_init = { λ _ _ _. ⊤ };
-
-    ghost may_make = { λ _ _. ⊤ };
-
-    ghost begun_gives = { λ s c q f h. h };
-
-    fn new_service(&self, _cfg: ()) -> Ready<Result<Awaking, Denial>> {
-        ok(Awaking {
-            waits: Cell::new(2),
-        })
-    }
-}
-
-/// Makes copies of a service that count together how often they are asked whether they are ready.
-#[derive(Drop)]
-pub(crate) struct Scores<'a, S> {
-    pub(crate) service: S,
-    pub(crate) polls: &'a Cell<u32>,
-}
-
-impl<'a, S: Service<Req> + Copy + Drop, Req> ServiceFactory<Req> for Scores<'a, S> {
-    type Response = S::Response;
-
-    type Error = S::Error;
-
-    type Config = u32;
-
-    type Service = Scoring<'a, S>;
-
-    type InitError = Denial;
-
-    type Future = Ready<Result<Scoring<'a, S>, Denial>>;
-
-    ghost can_make = { λ f. S.can_call f.service };
-
-    ghost may = { λ f _. S.may f.service };
-
-    ghost may_ready = { λ f _. S.may_ready f.service };
-
-    ghost may_begin = { λ f _. S.may_begin f.service };
-
-    ghost may_init = { λ _ _ _. ⊤ };
-
-    ghost may_make = { λ _ _. ⊤ };
-
-    ghost begun_gives = { λ f _. S.begun_gives f.service };
-
-    fn new_service(&self, _cfg: u32) -> Ready<Result<Scoring<'a, S>, Denial>> {
-        ok(Scoring {
-            service: self.service,
-            polls: self.polls,
-        })
-    }
-}
-
-/// A factory of services that count in `polls`.
-pub(crate) fn scored<S>(service: S, polls: &Cell<u32>) -> Scores<'_, S> {
-    Scores { service, polls }
-}
-
-/// Wraps each service in itself, after some polls.
-#[derive(Clone, Copy, Drop)]
-pub(crate) struct Passing {
-    pub(crate) waits: u32,
-}
-
-impl Transform<Echo, u32> for Passing {
-    type Response = u32;
-
-    type Error = Fault;
-
-    type Transform = Echo;
-
-    type InitError = Denial;
-
-    type Future = Late<Ready<Result<Echo, Denial>>>;
-
-    ghost can_make = { λ _ _. ⊤ };
-
-    ghost may = { λ _ _ _ _. ⊤ };
-
-    ghost may_ready = { λ _ _ _. ⊤ };
-
-    ghost may_init = { λ _ _. ⊤ };
-
-    ghost may_make = { λ _. ⊤ };
-
-    fn new_transform(&self, service: Echo) -> Late<Ready<Result<Echo, Denial>>> {
-        Late {
-            waits: self.waits,
-            future: ok(service),
-        }
-    }
-}
-
-/// Wraps no service.
-#[derive(Clone, Copy, Drop)]
-pub(crate) struct Refusing {
-    pub(crate) denial: Denial,
-}
-
-impl Transform<Echo, u32> for Refusing {
-    type Response = u32;
-
-    type Error = Fault;
-
-    type Transform = Echo;
-
-    type InitError = Denial;
-
-    type Future = Ready<Result<Echo, Denial>>;
-
-    ghost can_make = { λ _ _. ⊤ };
-
-    ghost may = { λ _ _ _ _. ⊤ };
-
-    ghost may_ready = { λ _ _ _. ⊤ };
-
-    ghost may_init = { λ _ _. ⊤ };
-
-    ghost may_make = { λ _. ⊤ };
-
-    fn new_transform(&self, _service: Echo) -> Ready<Result<Echo, Denial>> {
-        err(self.denial)
     }
 }

@@ -14,8 +14,8 @@ use std::marker::PhantomData;
 pub(crate) enum Asked<Req, Res, E, I> {
     /// A service that is made at once answers so at once.
     Served(Req, Result<Res, E>),
-    /// The readiness of a service that is made at once.
-    Readied(Result<(), E>),
+    /// The readiness of a service that is made at once is so, and a call after it is answered so.
+    Readied(Result<(), E>, Req, Result<Res, E>),
     /// What comes at once in place of a service.
     Denied(I),
     /// The making is pending at its first poll. It is dropped then.
@@ -41,6 +41,15 @@ impl<S: Service<Req> + Drop, Req> Future for Readiness<S, Req> {
     fn poll(&mut self, cx: &mut Context<'_>) -> Poll<Result<(), S::Error>> {
         self.service.poll_ready(cx)
     }
+}
+
+/// Whether both hold. Want of memory goes before.
+pub(crate) fn both(
+    first: Result<bool, AllocError>,
+    second: Result<bool, AllocError>,
+) -> Result<bool, AllocError> {
+    let first = first?;
+    Ok(second? && first)
 }
 
 /// A task that polls.
@@ -89,7 +98,7 @@ where
 }
 
 /// Whether a service answers so at once.
-pub(crate) fn answers<S, Req>(
+fn answers<S, Req>(
     task: &MockTask,
     service: S,
     req: Req,
@@ -104,7 +113,7 @@ where
 }
 
 /// Whether the readiness of a service is so at once.
-pub(crate) fn is_ready<S, Req>(
+fn is_ready<S, Req>(
     task: &MockTask,
     service: S,
     wanted: &Result<(), S::Error>,
@@ -118,6 +127,23 @@ where
         request: PhantomData,
     };
     is_answer(task.poll(&mut readiness), wanted)
+}
+
+/// Whether the readiness of a service is so at once, and its answer after it.
+pub(crate) fn answers_once_ready<S, Req>(
+    task: &MockTask,
+    service: S,
+    ready: &Result<(), S::Error>,
+    req: Req,
+    wanted: &Result<S::Response, S::Error>,
+) -> Result<bool, AllocError>
+where
+    Req: Drop,
+    S: Service<Req, Response: PartialEq + Drop, Error: NoMemory + PartialEq> + Drop,
+    requires { S.can_call service }
+{
+    let readied = is_ready::<&S, Req>(task, &service, ready);
+    both(readied, answers(task, service, req, wanted))
 }
 
 /// Whether a service that is made at once answers so at once.
@@ -142,21 +168,24 @@ where
     }
 }
 
-/// Whether the readiness of a service that is made at once is so.
+/// Whether the readiness of a service that is made at once is so, and its answer after it.
 fn readies<M, S, Req, I>(
     task: &MockTask,
     making: &mut M,
-    wanted: &Result<(), S::Error>,
+    ready: &Result<(), S::Error>,
+    req: Req,
+    wanted: &Result<S::Response, S::Error>,
 ) -> Result<bool, AllocError>
 where
-    S: Service<Req, Error: NoMemory + PartialEq> + Drop,
+    Req: Drop,
+    S: Service<Req, Response: PartialEq + Drop, Error: NoMemory + PartialEq> + Drop,
     I: NoMemory + PartialEq,
     M: Future<Output = Result<S, I>>,
     requires pollable { M.can_poll making.old }
     requires callable { (s : S) → M.gives making.old (Made s) → S.can_call s }
 {
     match task.poll(making) {
-        Poll::Ready(Ok(service)) => is_ready::<S, Req>(task, service, wanted),
+        Poll::Ready(Ok(service)) => answers_once_ready(task, service, ready, req, wanted),
         Poll::Ready(Err(error)) => is_other(error),
         Poll::Pending => Ok(false),
     }
@@ -218,6 +247,16 @@ fn polls_of<M: Future<Output: Drop>>(task: &MockTask, making: &mut M) -> u32
     4
 }
 
+impl<Req, Res, E, I> Asked<Req, Res, E, I> {
+    /// Whether it is asked of a factory and of a copy of it, where they are lent and where they are shared.
+    pub(crate) fn is_of_each_way(&self) -> bool {
+        match self {
+            Asked::Served(_, _) => true,
+            _ => false,
+        }
+    }
+}
+
 /// Whether a making shows what it has to.
 pub(crate) fn making_shows<M, S, Req, I>(
     task: &MockTask,
@@ -234,7 +273,7 @@ where
 {
     match asked {
         Asked::Served(req, answer) => serves(task, making, *req, answer),
-        Asked::Readied(answer) => readies::<M, S, Req, I>(task, making, answer),
+        Asked::Readied(ready, req, answer) => readies(task, making, ready, *req, answer),
         Asked::Denied(denial) => denies(task, making, denial),
         Asked::Waits => Ok(waits(task, making)),
         Asked::Polls(polls) => Ok(polls_of(task, making) == *polls),

@@ -1,56 +1,50 @@
 //! What pipelines of factories make.
 
-use crate::asking::{Order, each_way, once};
-use crate::changing::{excused_pipeline, mapped_pipeline, renamed_pipeline};
-use crate::makers::{Tags, copies, copies_late, denies, scored};
+use crate::changing::{pipeline, pipeline_excuses, pipeline_halves, pipeline_renames};
+use crate::makers::{Maker, denies, made_at_once, made_late};
 use crate::making::Asked;
 use crate::pairing::{chained, handed};
-use crate::services::{Echo, Faulty, Obeying, Summing, Tagging};
+use crate::services::{Kind, digit, echo, faulty};
 use crate::shown::{hold, holds};
-use crate::words::{Denial, Failure, Fault, Mark, Single, Word};
+use crate::words::{Denial, Failure, Fault, Settings, stepping};
 use std::alloc::AllocError;
-use std::cell::Cell;
 use std::test::Fail;
-
-/// Whether a pipeline of services that answer, which is mapped, shows what it has to.
-fn maps(
-    rt: &HostRuntime,
-    asked: &Asked<(), &'static str, Fault, Denial>,
-) -> Result<bool, AllocError> {
-    mapped_pipeline(rt, copies(Echo), asked)
-}
 
 #[test]
 fn a_pipeline_of_factories_maps_responses(rt: HostRuntime) -> Result<(), Fail> {
+    let answer = Asked::Served(8, Ok((4, "ok")));
+    let ready = Asked::Readied(Ok(()), 7, Ok((4, "ok")));
     hold(
         &rt,
         &[
-            maps(&rt, &Asked::Served((), Ok("ok"))),
-            maps(&rt, &Asked::Readied(Ok(()))),
+            pipeline_halves(&rt, made_at_once(echo()), &answer),
+            pipeline_halves(&rt, made_at_once(echo()), &ready),
         ],
     )
 }
 
-/// Whether a pipeline of services that err, whose errors are changed, shows what it has to.
-fn renames(rt: &HostRuntime, asked: &Asked<(), (), Failure, Denial>) -> Result<bool, AllocError> {
-    let faulty = Faulty { fault: Fault::Bad };
-    renamed_pipeline(rt, copies(faulty), asked)
-}
-
 #[test]
 fn a_pipeline_of_factories_maps_errors(rt: HostRuntime) -> Result<(), Fail> {
+    let error = Asked::Served(7, Err(Failure::Mapped));
+    let unready = Asked::Readied(Err(Failure::Mapped), 7, Err(Failure::Mapped));
     hold(
         &rt,
         &[
-            renames(&rt, &Asked::Served((), Err(Failure::Mapped))),
-            renames(&rt, &Asked::Readied(Err(Failure::Mapped))),
+            pipeline_renames(&rt, made_at_once(faulty()), &error),
+            pipeline_renames(&rt, made_at_once(faulty()), &unready),
         ],
     )
 }
 
 /// Whether this comes in place of a service where a pipeline makes none, and its own errors are changed.
 fn excuses_denial(rt: &HostRuntime, failure: Failure) -> Result<bool, AllocError> {
-    excused_pipeline(rt, denies(Denial::First), &Asked::Denied(failure))
+    let barren: Maker = denies(0, Denial::First);
+    pipeline_excuses(
+        rt,
+        Ok(pipeline(barren)),
+        &stepping(1),
+        &Asked::Denied(failure),
+    )
 }
 
 #[test]
@@ -60,163 +54,150 @@ fn a_pipeline_of_factories_maps_what_comes_in_place_of_a_service(
     holds(&rt, excuses_denial(&rt, Failure::Mapped))
 }
 
-/// Whether a pipeline of a part that echoes and one that tags shows what it has to, and counts on.
-fn tags(
-    rt: &HostRuntime,
-    counts: (&Cell<u32>, &Cell<u32>),
-    asked: &Asked<Word, (Word, Word), Fault, Denial>,
-) -> Result<bool, AllocError> {
-    let second = Tagging { tag: Word::Srv2 };
-    chained(
-        rt,
-        scored(Echo, counts.0),
-        scored(second, counts.1),
-        &once(1),
-        asked,
-    )
-}
-
+// The readiness of each part is polled once before the second answer, so each adds one.
 #[test]
 fn a_pipeline_of_factories_hands_each_response_on(rt: HostRuntime) -> Result<(), Fail> {
-    let one = Cell::new(0);
-    let two = Cell::new(0);
-    let answer = Asked::Served(Word::Srv1, Ok((Word::Srv1, Word::Srv2)));
+    let cfg = stepping(0);
+    let one = digit(10, 1);
+    let two = digit(10, 2);
+    let answer = Asked::Served(7, Ok(712));
+    let ready = Asked::Readied(Ok(()), 7, Ok(723));
     hold(
         &rt,
         &[
-            tags(&rt, (&one, &two), &answer),
-            tags(&rt, (&one, &two), &Asked::Readied(Ok(()))),
-            Ok(one.get() == 1 && two.get() == 1),
+            chained(&rt, made_at_once(one), made_at_once(two), &cfg, &answer),
+            chained(&rt, made_at_once(one), made_at_once(two), &cfg, &ready),
         ],
     )
 }
 
-/// Whether a pipeline of a part that obeys and one that sums shows what it has to, and counts on.
-fn sums(
-    rt: &HostRuntime,
-    counts: (&Cell<u32>, &Cell<u32>),
-    asked: &Asked<Result<Word, Fault>, (Word, Word), Fault, Denial>,
-) -> Result<bool, AllocError> {
-    handed(
-        rt,
-        scored(Obeying, counts.0),
-        scored(Summing, counts.1),
-        &once(1),
-        asked,
-    )
+/// A kind that refuses what has two digits.
+fn narrow() -> Kind {
+    Kind {
+        limit: 9,
+        ..digit(10, 1)
+    }
 }
 
+/// A kind that is never ready, but answers.
+fn unready() -> Kind {
+    Kind {
+        is_broken: true,
+        ..digit(10, 2)
+    }
+}
+
+// The second part stands for an error by 99. The readiness of each is polled once before the last answer.
 #[test]
 fn a_pipeline_of_factories_hands_each_result_on(rt: HostRuntime) -> Result<(), Fail> {
-    let one = Cell::new(0);
-    let two = Cell::new(0);
-    let fine = Asked::Served(Ok(Word::Srv1), Ok((Word::Srv1, Word::Fine)));
-    let failed = Asked::Served(Err(Fault::Bad), Ok((Word::Srv2, Word::Failed)));
+    let cfg = stepping(0);
+    let fine = Asked::Served(7, Ok(712));
+    let failed = Asked::Served(10, Ok(992));
+    let readied = Asked::Readied(Err(Fault::Bad), 7, Ok(723));
     hold(
         &rt,
         &[
-            sums(&rt, (&one, &two), &fine),
-            sums(&rt, (&one, &two), &failed),
-            sums(&rt, (&one, &two), &Asked::Readied(Err(Fault::Bad))),
-            Ok(one.get() == 1 && two.get() == 1),
+            handed(
+                &rt,
+                made_at_once(narrow()),
+                made_at_once(unready()),
+                &cfg,
+                &fine,
+            ),
+            handed(
+                &rt,
+                made_at_once(narrow()),
+                made_at_once(unready()),
+                &cfg,
+                &failed,
+            ),
+            handed(
+                &rt,
+                made_at_once(narrow()),
+                made_at_once(unready()),
+                &cfg,
+                &readied,
+            ),
         ],
-    )
-}
-
-/// Whether a pipeline of a part that echoes and one that obeys, which wait so often, shows what it has to.
-fn obeys(
-    rt: &HostRuntime,
-    waits: u32,
-    order: &Order<u32>,
-    asked: &Asked<u32, u32, Fault, Denial>,
-) -> Result<bool, AllocError> {
-    handed(
-        rt,
-        copies_late(waits, Echo),
-        copies_late(waits, Obeying),
-        order,
-        asked,
     )
 }
 
 #[test]
 fn then_makes_both_parts_at_once(rt: HostRuntime) -> Result<(), Fail> {
+    let cfg = stepping(1);
+    let one = made_late(1, echo());
+    let two = made_late(1, echo());
     hold(
         &rt,
         &[
-            obeys(&rt, 1, &once(1), &Asked::Waits),
-            obeys(&rt, 1, &once(1), &Asked::Polls(2)),
+            handed(&rt, one, made_late(1, echo()), &cfg, &Asked::Waits),
+            handed(&rt, two, made_late(1, echo()), &cfg, &Asked::Polls(2)),
         ],
-    )
-}
-
-/// Whether this comes in place of a pipeline whose parts both make no service.
-fn pair_is_denied(rt: &HostRuntime, denial: Denial) -> Result<bool, AllocError> {
-    let asked: Asked<u32, _, _, _> = Asked::Denied(denial);
-    handed(
-        rt,
-        denies(Denial::First),
-        denies(Denial::Second),
-        &once(1u32),
-        &asked,
-    )
-}
-
-/// Whether this comes in place of a pipeline whose first part makes a service after a poll, and whose second makes none.
-fn late_pair_is_denied(rt: &HostRuntime, denial: Denial) -> Result<bool, AllocError> {
-    let asked: Asked<u32, _, _, _> = Asked::Denied(denial);
-    handed(
-        rt,
-        copies_late(1, Echo),
-        denies(Denial::Second),
-        &once(1u32),
-        &asked,
     )
 }
 
 #[test]
 fn then_answers_the_first_error_of_its_makings(rt: HostRuntime) -> Result<(), Fail> {
+    let cfg = stepping(1);
+    let first = Asked::Denied(Denial::First);
+    let second = Asked::Denied(Denial::Second);
+    let other = Denial::Second;
     hold(
         &rt,
         &[
-            pair_is_denied(&rt, Denial::First),
-            late_pair_is_denied(&rt, Denial::Second),
+            handed(
+                &rt,
+                denies(0, Denial::First),
+                denies(0, other),
+                &cfg,
+                &first,
+            ),
+            handed(&rt, made_late(1, echo()), denies(0, other), &cfg, &second),
         ],
     )
 }
 
-/// What a pipeline answers whose parts tag a number and its result.
-type Tagged = (Result<(u32, Word), Fault>, Word);
-
-/// Whether a pipeline whose parts tag with the word of their configuration shows what it has to.
-fn tags_each(
-    rt: &HostRuntime,
-    word: Word,
-    asked: &Asked<u32, Tagged, Fault, Denial>,
-) -> Result<bool, AllocError> {
-    handed(rt, Tags, Tags, &once(Mark { word }), asked)
-}
-
 #[test]
 fn then_hands_a_clone_of_the_configuration_to_its_first_part(rt: HostRuntime) -> Result<(), Fail> {
-    let answer = Asked::Served(7, Ok((Ok((7, Word::Srv2)), Word::Srv)));
-    holds(&rt, tags_each(&rt, Word::Srv, &answer))
-}
-
-/// Whether this comes in place of a pipeline whose configuration has no clones.
-fn pair_without_clones_is_denied(rt: &HostRuntime, denial: Denial) -> Result<bool, AllocError> {
-    let asked: Asked<u32, _, _, _> = Asked::Denied(denial);
-    handed(rt, copies(Echo), copies(Obeying), &once(Single), &asked)
+    let cfg = Settings {
+        step: 1,
+        is_on: true,
+        cloned: Some(2),
+    };
+    let tens = digit(10, 0);
+    let answer = Asked::Served(7, Ok(721));
+    holds(
+        &rt,
+        handed(&rt, made_at_once(tens), made_at_once(tens), &cfg, &answer),
+    )
 }
 
 #[test]
 fn then_takes_a_configuration_without_clones_for_want_of_memory(
     rt: HostRuntime,
 ) -> Result<(), Fail> {
-    holds(&rt, pair_without_clones_is_denied(&rt, Denial::Memory))
+    let cfg = Settings {
+        step: 1,
+        is_on: true,
+        cloned: None,
+    };
+    let denied = Asked::Denied(Denial::Memory);
+    holds(
+        &rt,
+        handed(
+            &rt,
+            made_at_once(echo()),
+            made_at_once(echo()),
+            &cfg,
+            &denied,
+        ),
+    )
 }
 
 #[test]
 fn a_pipeline_of_factories_makes_the_same_where_it_is_shared(rt: HostRuntime) -> Result<(), Fail> {
-    holds(&rt, obeys(&rt, 0, &each_way(1), &Asked::Served(8, Ok(8))))
+    let first = made_at_once(digit(10, 3));
+    let second = made_at_once(digit(10, 4));
+    let answer = Asked::Served(8, Ok(845));
+    holds(&rt, handed(&rt, first, second, &stepping(1), &answer))
 }

@@ -1,289 +1,92 @@
-//! Services of the tests.
+//! The services of the tests.
 ghost use Rattle.std.specs.Prelude.{⊤};
 ghost use Rattle.service_core.specs.Meaning.{GivesOnly};
 
-use crate::words::{Fault, Word};
+use crate::words::Fault;
 use futures::Future;
 use futures::task::{Context, Poll};
-use service_core::{Ready, Service, err, ok, ready};
+use service_core::{Ready, Service, err, ok};
 use std::cell::Cell;
+use std::rc::Rc;
 
-/// Answers each request with itself.
-#[derive(Clone, Copy, Drop)]
-pub(crate) struct Echo;
+/// A request that stands for a number.
+pub(crate) trait Number: Drop {
+    fn number(&self) -> u32;
+}
 
-impl<T: Drop> Service<T> for Echo {
-    type Response = T;
-
-    type Error = Fault;
-
-    type Future = Ready<Result<T, Fault>>;
-
-    ghost may = { λ _ _ _. ⊤ };
-
-    ghost may_ready = { λ _ _. ⊤ };
-
-    ghost may_begin = { λ _ _ f. GivesOnly ⟦<Ready<Result<T, Fault>> as Future>⟧ f (λ _. ⊤) };
-
-    ghost begun_gives = { λ s q f h. h };
-
-    fn poll_ready(&self, _cx: &mut Context<'_>) -> Poll<Result<(), Fault>> {
-        Poll::Ready(Ok(()))
-    }
-
-    fn call(&self, req: T) -> Ready<Result<T, Fault>> {
-        ok(req)
+impl Number for u32 {
+    fn number(&self) -> u32 {
+        *self
     }
 }
 
-/// Is never ready, and answers no request: each time it errs.
-#[derive(Clone, Copy, Drop)]
-pub(crate) struct Faulty {
-    pub(crate) fault: Fault,
-}
-
-impl<T: Drop> Service<T> for Faulty {
-    type Response = T;
-
-    type Error = Fault;
-
-    type Future = Ready<Result<T, Fault>>;
-
-    ghost may = { λ _ _ _. ⊤ };
-
-    ghost may_ready = { λ _ _. ⊤ };
-
-    ghost may_begin = { λ _ _ f. GivesOnly ⟦<Ready<Result<T, Fault>> as Future>⟧ f (λ _. ⊤) };
-
-    ghost begun_gives = { λ s q f h. h };
-
-    fn poll_ready(&self, _cx: &mut Context<'_>) -> Poll<Result<(), Fault>> {
-        Poll::Ready(Err(self.fault))
-    }
-
-    fn call(&self, _req: T) -> Ready<Result<T, Fault>> {
-        err(self.fault)
-    }
-}
-
-/// Answers each request with itself and a word.
-#[derive(Clone, Copy, Drop)]
-pub(crate) struct Tagging {
-    pub(crate) tag: Word,
-}
-
-impl<T: Drop> Service<T> for Tagging {
-    type Response = (T, Word);
-
-    type Error = Fault;
-
-    type Future = Ready<Result<(T, Word), Fault>>;
-
-    ghost may = { λ _ _ _. ⊤ };
-
-    ghost may_ready = { λ _ _. ⊤ };
-
-    ghost may_begin = { λ _ _ f. GivesOnly ⟦<Ready<Result<(T, Word), Fault>> as Future>⟧ f (λ _. ⊤) };
-
-    ghost begun_gives = { λ s q f h. h };
-
-    fn poll_ready(&self, _cx: &mut Context<'_>) -> Poll<Result<(), Fault>> {
-        Poll::Ready(Ok(()))
-    }
-
-    fn call(&self, req: T) -> Ready<Result<(T, Word), Fault>> {
-        ok((req, self.tag))
-    }
-}
-
-/// Answers as its request says.
-#[derive(Clone, Copy, Drop)]
-pub(crate) struct Obeying;
-
-impl<T: Drop> Service<Result<T, Fault>> for Obeying {
-    type Response = T;
-
-    type Error = Fault;
-
-    type Future = Ready<Result<T, Fault>>;
-
-    ghost may = { λ _ _ _. ⊤ };
-
-    ghost may_ready = { λ _ _. ⊤ };
-
-    ghost may_begin = { λ _ _ f. GivesOnly ⟦<Ready<Result<T, Fault>> as Future>⟧ f (λ _. ⊤) };
-
-    ghost begun_gives = { λ s q f h. h };
-
-    fn poll_ready(&self, _cx: &mut Context<'_>) -> Poll<Result<(), Fault>> {
-        Poll::Ready(Ok(()))
-    }
-
-    fn call(&self, req: Result<T, Fault>) -> Ready<Result<T, Fault>> {
-        ready(req)
-    }
-}
-
-/// Answers each result with its word and a word on it. It is never ready.
-#[derive(Clone, Copy, Drop)]
-pub(crate) struct Summing;
-
-impl Service<Result<Word, Fault>> for Summing {
-    type Response = (Word, Word);
-
-    type Error = Fault;
-
-    type Future = Ready<Result<(Word, Word), Fault>>;
-
-    ghost may = { λ _ _ _. ⊤ };
-
-    ghost may_ready = { λ _ _. ⊤ };
-
-    ghost may_begin = { λ _ _ f. GivesOnly ⟦<Ready<Result<(Word, Word), Fault>> as Future>⟧ f (λ _. ⊤) };
-
-    ghost begun_gives = { λ s q f h. h };
-
-    fn poll_ready(&self, _cx: &mut Context<'_>) -> Poll<Result<(), Fault>> {
-        Poll::Ready(Err(Fault::Bad))
-    }
-
-    fn call(&self, req: Result<Word, Fault>) -> Ready<Result<(Word, Word), Fault>> {
-        match req {
-            Ok(word) => ok((word, Word::Fine)),
-            Err(_) => ok((Word::Srv2, Word::Failed)),
+impl Number for Result<u32, Fault> {
+    fn number(&self) -> u32 {
+        match self {
+            Ok(number) => *number,
+            Err(_) => 99,
         }
     }
 }
 
-/// Answers half of each number.
+/// What a service answers.
 #[derive(Clone, Copy, Drop)]
-pub(crate) struct Halving;
-
-impl Service<u32> for Halving {
-    type Response = u32;
-
-    type Error = Fault;
-
-    type Future = Ready<Result<u32, Fault>>;
-
-    ghost may = { λ _ _ _. ⊤ };
-
-    ghost may_ready = { λ _ _. ⊤ };
-
-    ghost may_begin = { λ _ _ f. GivesOnly ⟦<Ready<Result<u32, Fault>> as Future>⟧ f (λ _. ⊤) };
-
-    ghost begun_gives = { λ s q f h. h };
-
-    fn poll_ready(&self, _cx: &mut Context<'_>) -> Poll<Result<(), Fault>> {
-        Poll::Ready(Ok(()))
-    }
-
-    fn call(&self, req: u32) -> Ready<Result<u32, Fault>> {
-        ok(req / 2)
-    }
-}
-
-/// Counts how often its service is asked whether it is ready.
-#[derive(Drop)]
-pub(crate) struct Scoring<'a, S> {
-    pub(crate) service: S,
-    pub(crate) polls: &'a Cell<u32>,
-}
-
-impl<S: Service<Req>, Req> Service<Req> for Scoring<'_, S> {
-    type Response = S::Response;
-
-    type Error = S::Error;
-
-    type Future = S::Future;
-
-    ghost can_call = { λ s. S.can_call s.service };
-
-    ghost may = { λ s. S.may s.service };
-
-    ghost may_ready = { λ s. S.may_ready s.service };
-
-    ghost may_begin = { λ s. S.may_begin s.service };
-
-    ghost begun_gives = { λ s. S.begun_gives s.service };
-
-    fn poll_ready(&self, cx: &mut Context<'_>) -> Poll<Result<(), S::Error>> {
-        self.polls.set(self.polls.get().saturating_add(1));
-        self.service.poll_ready(cx)
-    }
-
-    fn call(&self, req: Req) -> S::Future {
-        self.service.call(req)
-    }
-}
-
-/// Adds a step to each number.
-#[derive(Clone, Copy, Drop)]
-pub(crate) struct Adding {
+pub(crate) struct Kind {
+    /// Each number up to the limit is multiplied by the factor, and the step is added. Those above it are refused.
+    pub(crate) factor: u32,
     pub(crate) step: u32,
+    pub(crate) limit: u32,
+    /// Whether its readiness is an error.
+    pub(crate) is_broken: bool,
+    /// How many polls of its readiness are pending.
+    pub(crate) waits: u32,
 }
 
-impl Service<u32> for Adding {
-    type Response = u32;
+/// Answers each number with itself.
+pub(crate) fn echo() -> Kind {
+    digit(1, 0)
+}
 
-    type Error = Fault;
-
-    type Future = Ready<Result<u32, Fault>>;
-
-    ghost may = { λ _ _ _. ⊤ };
-
-    ghost may_ready = { λ _ _. ⊤ };
-
-    ghost may_begin = { λ _ _ f. GivesOnly ⟦<Ready<Result<u32, Fault>> as Future>⟧ f (λ _. ⊤) };
-
-    ghost begun_gives = { λ s q f h. h };
-
-    fn poll_ready(&self, _cx: &mut Context<'_>) -> Poll<Result<(), Fault>> {
-        Poll::Ready(Ok(()))
-    }
-
-    fn call(&self, req: u32) -> Ready<Result<u32, Fault>> {
-        ok(req.wrapping_add(self.step))
+/// Puts a digit behind each number, where the factor is ten.
+pub(crate) fn digit(factor: u32, step: u32) -> Kind {
+    Kind {
+        factor,
+        step,
+        limit: 9999,
+        is_broken: false,
+        waits: 0,
     }
 }
 
-/// Answers each request with one value.
+/// Is never ready, and answers no request: each time it errs.
+pub(crate) fn faulty() -> Kind {
+    Kind {
+        factor: 1,
+        step: 0,
+        limit: 0,
+        is_broken: true,
+        waits: 0,
+    }
+}
+
+/// A service of its kind, which adds one more for each poll of its readiness.
 #[derive(Drop)]
-pub(crate) struct Telling<T> {
-    pub(crate) value: T,
+pub(crate) struct Serving {
+    pub(crate) kind: Kind,
+    pub(crate) polls: Cell<u32>,
+    pub(crate) calls: Cell<u32>,
 }
 
-impl<T: Copy + Drop> Service<()> for Telling<T> {
-    type Response = T;
-
-    type Error = Fault;
-
-    type Future = Ready<Result<T, Fault>>;
-
-    ghost may = { λ _ _ _. ⊤ };
-
-    ghost may_ready = { λ _ _. ⊤ };
-
-    ghost may_begin = { λ _ _ f. GivesOnly ⟦<Ready<Result<T, Fault>> as Future>⟧ f (λ _. ⊤) };
-
-    ghost begun_gives = { λ s q f h. h };
-
-    fn poll_ready(&self, _cx: &mut Context<'_>) -> Poll<Result<(), Fault>> {
-        Poll::Ready(Ok(()))
-    }
-
-    fn call(&self, _req: ()) -> Ready<Result<T, Fault>> {
-        ok(self.value)
+/// A new service of the kind.
+pub(crate) fn service_of(kind: Kind) -> Serving {
+    Serving {
+        kind,
+        polls: Cell::new(0),
+        calls: Cell::new(0),
     }
 }
 
-/// Answers each number with itself, but is pending at the first polls of its readiness.
-#[derive(Drop)]
-pub(crate) struct Awaking {
-    pub(crate) waits: Cell<u32>,
-}
-
-impl Service<u32> for Awaking {
+impl<T: Number> Service<T> for Serving {
     type Response = u32;
 
     type Error = Fault;
@@ -299,15 +102,63 @@ impl Service<u32> for Awaking {
     ghost begun_gives = { λ s q f h. h };
 
     fn poll_ready(&self, cx: &mut Context<'_>) -> Poll<Result<(), Fault>> {
-        let waits = self.waits.get();
-        if waits > 0 {
-            self.waits.set(waits - 1);
+        let polls = self.polls.get().saturating_add(1);
+        self.polls.set(polls);
+        if polls <= self.kind.waits {
             return cx.yield_now();
         }
-        Poll::Ready(Ok(()))
+        if self.kind.is_broken {
+            Poll::Ready(Err(Fault::Bad))
+        } else {
+            Poll::Ready(Ok(()))
+        }
+    }
+
+    fn call(&self, req: T) -> Ready<Result<u32, Fault>> {
+        self.calls.set(self.calls.get().saturating_add(1));
+        let number = req.number();
+        if number > self.kind.limit {
+            return err(Fault::Bad);
+        }
+        let own = number.wrapping_mul(self.kind.factor);
+        ok(
+            own.wrapping_add(self.kind.step)
+                .wrapping_add(self.polls.get()),
+        )
+    }
+}
+
+/// Hands on each number up to its limit, and refuses those above it.
+#[derive(Drop)]
+pub(crate) struct Limited {
+    pub(crate) limit: u32,
+    pub(crate) service: Rc<Serving>,
+}
+
+impl Service<u32> for Limited {
+    type Response = u32;
+
+    type Error = Fault;
+
+    type Future = Ready<Result<u32, Fault>>;
+
+    ghost may = { λ _ _ _. ⊤ };
+
+    ghost may_ready = { λ _ _. ⊤ };
+
+    ghost may_begin = { λ _ _ f. GivesOnly ⟦<Ready<Result<u32, Fault>> as Future>⟧ f (λ _. ⊤) };
+
+    ghost begun_gives = { λ s q f h. h };
+
+    fn poll_ready(&self, cx: &mut Context<'_>) -> Poll<Result<(), Fault>> {
+        Service::<u32>::poll_ready(&self.service, cx)
     }
 
     fn call(&self, req: u32) -> Ready<Result<u32, Fault>> {
-        ok(req)
+        if req > self.limit {
+            err(Fault::Bad)
+        } else {
+            self.service.call(req)
+        }
     }
 }

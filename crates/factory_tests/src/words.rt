@@ -1,18 +1,8 @@
-//! Words, configurations and errors of the tests.
+//! Configurations and errors of the tests.
 ghost use Rattle.std.specs.Prelude.{⊤};
 
 use service_core::NoMemory;
 use std::alloc::AllocError;
-
-/// A word of requests and responses.
-#[derive(Clone, Copy, Drop, PartialEq)]
-pub(crate) enum Word {
-    Srv,
-    Srv1,
-    Srv2,
-    Fine,
-    Failed,
-}
 
 /// Why a service of the tests gave no response.
 #[derive(Clone, Copy, Drop, PartialEq)]
@@ -28,23 +18,6 @@ impl NoMemory for Fault {
 
     fn no_memory() -> Fault {
         Fault::Memory
-    }
-}
-
-/// An error that is made of another.
-#[derive(Clone, Copy, Drop, PartialEq)]
-pub(crate) enum Failure {
-    Mapped,
-    NoRoom,
-}
-
-impl NoMemory for Failure {
-    ghost use Rattle.factory_tests.specs.declared.words.Failure.TheVariants.{NoRoom};
-
-    ghost refusal = { NoRoom };
-
-    fn no_memory() -> Failure {
-        Failure::NoRoom
     }
 }
 
@@ -75,63 +48,86 @@ impl From<Fault> for Denial {
     }
 }
 
-impl From<AllocError> for Denial {
+/// An error of a program's own, and of the transform of the tests.
+#[derive(Clone, Copy, Drop, PartialEq)]
+pub(crate) enum Failure {
+    Mapped,
+    Turned,
+    Broken,
+    NoRoom,
+}
+
+impl NoMemory for Failure {
+    ghost use Rattle.factory_tests.specs.declared.words.Failure.TheVariants.{NoRoom};
+
+    ghost refusal = { NoRoom };
+
+    fn no_memory() -> Failure {
+        Failure::NoRoom
+    }
+}
+
+impl From<Denial> for Failure {
     ghost from_gives = { λ _ _. ⊤ };
 
-    fn from(_: AllocError) -> Denial {
-        Denial::Memory
+    fn from(_: Denial) -> Failure {
+        Failure::Turned
     }
 }
 
-/// A configuration that can be had again, as it was.
-pub(crate) trait Again: Drop {
-    fn again(&self) -> Self;
-}
-
-impl Again for () {
-    fn again(&self) {}
-}
-
-impl Again for u32 {
-    fn again(&self) -> u32 {
-        *self
-    }
-}
-
-/// A configuration whose clones have a word of their own.
+/// The settings of a program, of which services are made. A clone is on, and has a step of its own or cannot be had.
 #[derive(Drop)]
-pub(crate) struct Mark {
-    pub(crate) word: Word,
+pub(crate) struct Settings {
+    pub(crate) step: u32,
+    pub(crate) is_on: bool,
+    pub(crate) cloned: Option<u32>,
 }
 
-impl Clone for Mark {
+impl Settings {
+    /// The settings as they were.
+    pub(crate) fn again(&self) -> Settings {
+        Settings {
+            step: self.step,
+            is_on: self.is_on,
+            cloned: self.cloned,
+        }
+    }
+}
+
+impl Clone for Settings {
     ghost is_clone = { λ _ _. ⊤ };
 
-    fn clone(&self) -> Result<Mark, AllocError> {
-        Ok(Mark { word: Word::Srv2 })
+    fn clone(&self) -> Result<Settings, AllocError> {
+        match self.cloned {
+            Some(step) => Ok(stepping(step)),
+            None => Err(AllocError),
+        }
     }
 }
 
-impl Again for Mark {
-    fn again(&self) -> Mark {
-        Mark { word: self.word }
+/// Settings with a step, whose clones are as they are.
+pub(crate) fn stepping(step: u32) -> Settings {
+    Settings {
+        step,
+        is_on: true,
+        cloned: Some(step),
     }
 }
 
-/// A configuration that has no clones.
-#[derive(Drop)]
-pub(crate) struct Single;
+/// What a factory of the tests can be configured by.
+pub(crate) trait Configures: Drop {
+    /// The step of a service, if one is to be made.
+    fn step(&self) -> Option<u32>;
+}
 
-impl Clone for Single {
-    ghost is_clone = { λ _ _. ⊤ };
-
-    fn clone(&self) -> Result<Single, AllocError> {
-        Err(AllocError)
+impl Configures for Settings {
+    fn step(&self) -> Option<u32> {
+        if self.is_on { Some(self.step) } else { None }
     }
 }
 
-impl Again for Single {
-    fn again(&self) -> Single {
-        Single
+impl Configures for () {
+    fn step(&self) -> Option<u32> {
+        Some(0)
     }
 }

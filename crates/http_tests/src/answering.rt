@@ -1,10 +1,12 @@
 //! Answers that are looked at: by the definition, and by the connection however its bytes come.
-use crate::serving::{MANY, is_served, limits};
+use crate::serving::{MANY, Wanted, is_served, limits};
+use crate::shown::holds;
 use crate::test_link::Way;
 use futures::test::MockTask;
 use http_plain::answers;
 use service_core::{How, Octets};
 use std::alloc::{AllocError, AllocGlobal, Global};
+use std::process::Abort;
 use std::random::RandomSource;
 use std::test::Fail;
 
@@ -30,7 +32,8 @@ pub(crate) fn is_written(
     way: Way,
     text: &[u8],
 ) -> Result<bool, AllocError> {
-    is_served(task, alloc, (bytes, way, MANY), Some(How::Served), text)
+    let wanted = Wanted::Writes(Some(How::Served), text);
+    is_served(task, alloc, (bytes, way, MANY), &wanted)
 }
 
 // The same however its bytes come.
@@ -55,11 +58,12 @@ pub(crate) fn is_answered(
     bytes: &[u8],
     text: &[u8],
 ) -> Result<bool, AllocError> {
-    let defined = defined(alloc, bytes)?;
-    if defined.as_bytes() != text {
-        return Ok(false);
+    match defined(alloc, bytes) {
+        Ok(defined) => {
+            Ok(defined.as_bytes() == text && is_always_written(task, alloc, bytes, text)?)
+        }
+        Err(error) => Err(error),
     }
-    is_always_written(task, alloc, bytes, text)
 }
 
 // The same for each of the bytes and its answers.
@@ -76,13 +80,13 @@ fn are_answered(
     Ok(true)
 }
 
-/// Whether each of the bytes has the answers beside it.
-pub(crate) fn answered<R: RandomSource + AllocGlobal>(
+/// Each of the bytes has the answers beside it.
+pub(crate) fn answered<R: Abort + RandomSource + AllocGlobal>(
     rt: &R,
     rows: &[(&[u8], &[u8])],
-) -> Result<bool, Fail> {
+) -> Result<(), Fail> {
     let task = MockTask::new(rt)?;
-    Ok(are_answered(&task, rt.alloc(), rows)?)
+    holds(rt, are_answered(&task, rt.alloc(), rows))
 }
 
 // Whether each of the bytes has this answer.
@@ -100,12 +104,12 @@ fn are_answered_alike(
     Ok(true)
 }
 
-/// Whether each of the bytes has this answer.
-pub(crate) fn answered_alike<R: RandomSource + AllocGlobal>(
+/// Each of the bytes has this answer.
+pub(crate) fn answered_alike<R: Abort + RandomSource + AllocGlobal>(
     rt: &R,
     rows: &[&[u8]],
     text: &[u8],
-) -> Result<bool, Fail> {
+) -> Result<(), Fail> {
     let task = MockTask::new(rt)?;
-    Ok(are_answered_alike(&task, rt.alloc(), rows, text)?)
+    holds(rt, are_answered_alike(&task, rt.alloc(), rows, text))
 }

@@ -2,10 +2,12 @@
 ghost use Rattle.std.specs.Prelude.{◌<◌, length};
 
 use crate::answering::{defined, is_written};
+use crate::shown::holds;
 use crate::test_link::Way;
 use futures::test::MockTask;
 use service_core::Octets;
 use std::alloc::{AllocError, AllocGlobal, Global};
+use std::process::Abort;
 use std::random::RandomSource;
 use std::test::Fail;
 
@@ -52,9 +54,10 @@ const ODD: [u8; 12] = [
 
 // Whether what the connection of the bytes writes is what the definition says.
 fn is_by_definition(task: &MockTask, alloc: Global, bytes: &[u8]) -> Result<bool, AllocError> {
-    let defined = defined(alloc, bytes)?;
-    let way = Way::of(4096, false);
-    is_written(task, alloc, bytes, way, defined.as_bytes())
+    match defined(alloc, bytes) {
+        Ok(defined) => is_written(task, alloc, bytes, Way::of(4096, false), defined.as_bytes()),
+        Err(error) => Err(error),
+    }
 }
 
 // The bytes with others in place of one.
@@ -76,8 +79,10 @@ fn is_by_definition_when_damaged(
 ) -> Result<bool, AllocError>
     requires { place.1 < length place.0.now }
 {
-    let copy = damaged(alloc, place.0, place.1, instead)?;
-    is_by_definition(task, alloc, copy.as_bytes())
+    match damaged(alloc, place.0, place.1, instead) {
+        Ok(copy) => is_by_definition(task, alloc, copy.as_bytes()),
+        Err(error) => Err(error),
+    }
 }
 
 // The same with each odd byte in place of one.
@@ -171,47 +176,42 @@ fn are_by_definition(
     Ok(true)
 }
 
-// The same, with a task of its own.
-fn by_definition<R: RandomSource + AllocGlobal>(
+// Each text is answered so.
+fn by_definition<R: Abort + RandomSource + AllocGlobal>(
     rt: &R,
     damage: Option<Damage>,
-) -> Result<bool, Fail> {
+) -> Result<(), Fail> {
     let task = MockTask::new(rt)?;
-    Ok(are_by_definition(&task, rt.alloc(), damage)?)
+    holds(rt, are_by_definition(&task, rt.alloc(), damage))
 }
 
 #[test]
 fn requests_are_answered_by_the_definition(rt: HostRuntime) -> Result<(), Fail> {
-    assert!(rt; by_definition(&rt, None)?);
-    Ok(())
+    by_definition(&rt, None)
 }
 
 #[test]
 fn requests_cut_anywhere_are_answered_by_the_definition(rt: HostRuntime) -> Result<(), Fail> {
-    assert!(rt; by_definition(&rt, Some(Damage::Cut))?);
-    Ok(())
+    by_definition(&rt, Some(Damage::Cut))
 }
 
 #[test]
 fn requests_with_a_byte_replaced_are_answered_by_the_definition(
     rt: HostRuntime,
 ) -> Result<(), Fail> {
-    assert!(rt; by_definition(&rt, Some(Damage::Replaced))?);
-    Ok(())
+    by_definition(&rt, Some(Damage::Replaced))
 }
 
 #[test]
 fn requests_with_a_byte_dropped_are_answered_by_the_definition(
     rt: HostRuntime,
 ) -> Result<(), Fail> {
-    assert!(rt; by_definition(&rt, Some(Damage::Dropped))?);
-    Ok(())
+    by_definition(&rt, Some(Damage::Dropped))
 }
 
 #[test]
 fn requests_with_a_byte_doubled_are_answered_by_the_definition(
     rt: HostRuntime,
 ) -> Result<(), Fail> {
-    assert!(rt; by_definition(&rt, Some(Damage::Doubled))?);
-    Ok(())
+    by_definition(&rt, Some(Damage::Doubled))
 }

@@ -10,7 +10,7 @@ use service_core::{Octets, Ready, Service, err, ok};
 use std::alloc::{AllocError, Global};
 
 /// Why a request has no answer of its own.
-#[derive(Debug, PartialEq, Drop)]
+#[derive(Drop)]
 pub(crate) enum EchoError {
     /// Nothing is there.
     Missing,

@@ -1,6 +1,7 @@
 //! A connection whose bytes end, or whose link fails, at any place of two requests.
 use crate::answering::is_answered;
-use crate::serving::{MANY, OK, is_served};
+use crate::serving::{MANY, OK, Wanted, is_served};
+use crate::shown::holds;
 use crate::test_link::Way;
 use futures::test::MockTask;
 use service_core::How;
@@ -44,25 +45,19 @@ fn requests_cut_short_anywhere_have_the_answers_to_the_whole_ones(
     rt: HostRuntime,
 ) -> Result<(), Fail> {
     let task = MockTask::new(&rt)?;
-    assert!(rt; fronts_are_answered(&task, rt.alloc())?);
-    Ok(())
+    holds(&rt, fronts_are_answered(&task, rt.alloc()))
 }
 
-// Whether it ends by a read fault and wrote this, where the read fails that begins once so many bytes were taken.
-fn reads_fail_at(
+// Whether the connection of both over such a link ends so and wrote this.
+fn end_so(
     task: &MockTask,
     alloc: Global,
-    row: (usize, bool, usize),
+    way: Way,
+    how: How,
     text: &[u8],
 ) -> Result<bool, AllocError> {
-    let (piece, pauses, most_read) = row;
-    let way = Way {
-        piece,
-        pauses,
-        most_read,
-        most_written: usize::MAX,
-    };
-    is_served(task, alloc, (BOTH, way, MANY), Some(How::ReadFault), text)
+    let wanted = Wanted::Writes(Some(how), text);
+    is_served(task, alloc, (BOTH, way, MANY), &wanted)
 }
 
 // How many bytes are taken in such pieces where reads fail once so many were.
@@ -78,8 +73,9 @@ fn reads_fail_anywhere(
     pauses: bool,
 ) -> Result<bool, AllocError> {
     for most in 0..BOTH.len() + 1 {
+        let way = Way::failing_reads(piece, pauses, most);
         let text = answers_within(taken_by(piece, most));
-        if !reads_fail_at(task, alloc, (piece, pauses, most), text)? {
+        if !end_so(task, alloc, way, How::ReadFault, text)? {
             return Ok(false);
         }
     }
@@ -99,33 +95,14 @@ fn reads_fail(task: &MockTask, alloc: Global) -> Result<bool, AllocError> {
 #[test]
 fn a_read_fault_anywhere_ends_it_with_what_was_taken_answered(rt: HostRuntime) -> Result<(), Fail> {
     let task = MockTask::new(&rt)?;
-    assert!(rt; reads_fail(&task, rt.alloc())?);
-    Ok(())
-}
-
-// Whether it ends so and wrote this, where the write fails that begins once so many bytes were written.
-fn writes_fail_at(
-    task: &MockTask,
-    alloc: Global,
-    row: (usize, bool, usize),
-    how: How,
-    text: &[u8],
-) -> Result<bool, AllocError> {
-    let (piece, pauses, most_written) = row;
-    let way = Way {
-        piece,
-        pauses,
-        most_read: usize::MAX,
-        most_written,
-    };
-    is_served(task, alloc, (BOTH, way, MANY), Some(how), text)
+    holds(&rt, reads_fail(&task, rt.alloc()))
 }
 
 // Whether the answers are written up to where a write fails, wherever that is.
 fn writes_fail_anywhere(task: &MockTask, alloc: Global, pauses: bool) -> Result<bool, AllocError> {
     for most in 0..ANSWERS.len() {
-        let row = (1, pauses, most);
-        if !writes_fail_at(task, alloc, row, How::WriteFault, &ANSWERS[..most])? {
+        let way = Way::failing_writes(1, pauses, most);
+        if !end_so(task, alloc, way, How::WriteFault, &ANSWERS[..most])? {
             return Ok(false);
         }
     }
@@ -139,21 +116,21 @@ fn writes_fail(task: &MockTask, alloc: Global) -> Result<bool, AllocError> {
             return Ok(false);
         }
     }
-    writes_fail_at(task, alloc, (4, true, 6), How::WriteFault, b"HTTP/1.1")
+    let way = Way::failing_writes(4, true, 6);
+    end_so(task, alloc, way, How::WriteFault, b"HTTP/1.1")
 }
 
 #[test]
 fn a_write_fault_anywhere_ends_it_with_a_front_of_the_answers(rt: HostRuntime) -> Result<(), Fail> {
     let task = MockTask::new(&rt)?;
-    assert!(rt; writes_fail(&task, rt.alloc())?);
-    Ok(())
+    holds(&rt, writes_fail(&task, rt.alloc()))
 }
 
 // Whether all is written, byte by byte, where a further write would fail.
 fn all_is_written(task: &MockTask, alloc: Global) -> Result<bool, AllocError> {
     for pauses in [false, true] {
-        let row = (1, pauses, ANSWERS.len());
-        if !writes_fail_at(task, alloc, row, How::Served, ANSWERS)? {
+        let way = Way::failing_writes(1, pauses, ANSWERS.len());
+        if !end_so(task, alloc, way, How::Served, ANSWERS)? {
             return Ok(false);
         }
     }
@@ -163,8 +140,7 @@ fn all_is_written(task: &MockTask, alloc: Global) -> Result<bool, AllocError> {
 #[test]
 fn a_link_that_takes_one_byte_a_write_gets_whole_answers(rt: HostRuntime) -> Result<(), Fail> {
     let task = MockTask::new(&rt)?;
-    assert!(rt; all_is_written(&task, rt.alloc())?);
-    Ok(())
+    holds(&rt, all_is_written(&task, rt.alloc()))
 }
 
 // Requests behind which the connection closes, with a byte behind them, and their answers.
@@ -186,13 +162,9 @@ fn is_closed(
     bytes: &[u8],
     text: &[u8],
 ) -> Result<bool, AllocError> {
-    let way = Way {
-        piece: 1,
-        pauses: false,
-        most_read: bytes.len().saturating_sub(1),
-        most_written: usize::MAX,
-    };
-    is_served(task, alloc, (bytes, way, MANY), Some(How::Served), text)
+    let way = Way::failing_reads(1, false, bytes.len().saturating_sub(1));
+    let wanted = Wanted::Writes(Some(How::Served), text);
+    is_served(task, alloc, (bytes, way, MANY), &wanted)
 }
 
 fn are_closed(task: &MockTask, alloc: Global) -> Result<bool, AllocError> {
@@ -207,6 +179,5 @@ fn are_closed(task: &MockTask, alloc: Global) -> Result<bool, AllocError> {
 #[test]
 fn no_read_behind_a_closing_answer_is_tried(rt: HostRuntime) -> Result<(), Fail> {
     let task = MockTask::new(&rt)?;
-    assert!(rt; are_closed(&task, rt.alloc())?);
-    Ok(())
+    holds(&rt, are_closed(&task, rt.alloc()))
 }

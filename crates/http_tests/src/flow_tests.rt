@@ -4,13 +4,15 @@ ghost use Rattle.std.specs.Arc.{arc_value};
 
 use crate::echo::Echo;
 use crate::porter::Porter;
-use crate::serving::{MANY, OK, echoing, is_served_by};
+use crate::serving::{MANY, OK, Wanted, is_echoed, is_served_by};
+use crate::shown::holds;
 use crate::switch::Switch;
-use crate::test_link::{TestLink, Way};
+use crate::test_link::Way;
 use futures::test::MockTask;
 use http_flow::{ExpectHandler, HttpFlow, UpgradeHandler};
 use service_core::How;
 use std::alloc::{AllocError, AllocGlobal, Global};
+use std::process::Abort;
 use std::random::RandomSource;
 use std::sync::Arc;
 use std::test::Fail;
@@ -64,34 +66,43 @@ fn switching(
     Ok(Arc::new(alloc, flow)?)
 }
 
+// Whether `Echo`, with `Porter` to ask, brings the link to this.
+fn is_asked(
+    task: &MockTask,
+    alloc: Global,
+    served: (&[u8], Way, usize),
+    wanted: &Wanted<'_>,
+) -> Result<bool, AllocError> {
+    match asking(alloc) {
+        Ok(flow) => is_served_by(task, &flow, true, served, wanted),
+        Err(error) => Err(error),
+    }
+}
+
+// The same of `Echo`, with `Switch` for another protocol.
+fn is_switched(
+    task: &MockTask,
+    alloc: Global,
+    waits: bool,
+    served: (&[u8], Way, usize),
+    wanted: &Wanted<'_>,
+) -> Result<bool, AllocError> {
+    match switching(alloc, waits) {
+        Ok(flow) => is_served_by(task, &flow, true, served, wanted),
+        Err(error) => Err(error),
+    }
+}
+
 // Whether the connection ends as the row says, where its bytes come in such pieces.
 fn ends_so(task: &MockTask, alloc: Global, row: &Row, piece: usize) -> Result<bool, AllocError> {
-    let link = TestLink::new(alloc, row.bytes, Way::of(piece, false))?;
-    let served = (link, MANY);
+    let served = (row.bytes, Way::of(piece, false), MANY);
+    let wanted = Wanted::Writes(row.how, row.text);
     match row.kind {
-        Kind::Plain => is_served_by(task, &echoing(alloc)?, true, served, row.how, row.text),
-        Kind::Closing => is_served_by(task, &echoing(alloc)?, false, served, row.how, row.text),
-        Kind::Asking => is_served_by(task, &asking(alloc)?, true, served, row.how, row.text),
-        Kind::Switching => {
-            is_served_by(
-                task,
-                &switching(alloc, false)?,
-                true,
-                served,
-                row.how,
-                row.text,
-            )
-        }
-        Kind::Waiting => {
-            is_served_by(
-                task,
-                &switching(alloc, true)?,
-                true,
-                served,
-                row.how,
-                row.text,
-            )
-        }
+        Kind::Plain => is_echoed(task, alloc, true, served, &wanted),
+        Kind::Closing => is_echoed(task, alloc, false, served, &wanted),
+        Kind::Asking => is_asked(task, alloc, served, &wanted),
+        Kind::Switching => is_switched(task, alloc, false, served, &wanted),
+        Kind::Waiting => is_switched(task, alloc, true, served, &wanted),
     }
 }
 
@@ -105,10 +116,10 @@ fn all_end_so(task: &MockTask, alloc: Global, rows: &[Row]) -> Result<bool, Allo
     Ok(true)
 }
 
-// The same, with a task of its own.
-fn end_so<R: RandomSource + AllocGlobal>(rt: &R, rows: &[Row]) -> Result<bool, Fail> {
+// Each connection ends as its row says.
+fn end_so<R: Abort + RandomSource + AllocGlobal>(rt: &R, rows: &[Row]) -> Result<(), Fail> {
     let task = MockTask::new(rt)?;
-    Ok(all_end_so(&task, rt.alloc(), rows)?)
+    holds(rt, all_end_so(&task, rt.alloc(), rows))
 }
 
 #[test]
@@ -119,8 +130,7 @@ fn without_keep_alive_one_request_is_answered(rt: HostRuntime) -> Result<(), Fai
         how: Some(How::Served),
         text: b"HTTP/1.1 200 OK\r\ncontent-length: 3\r\nconnection: close\r\n\r\n/a\n",
     }];
-    assert!(rt; end_so(&rt, &rows)?);
-    Ok(())
+    end_so(&rt, &rows)
 }
 
 #[test]
@@ -131,8 +141,7 @@ fn nothing_follows_an_expectation_that_is_not_met(rt: HostRuntime) -> Result<(),
         how: Some(How::Served),
         text: b"HTTP/1.1 417 Expectation Failed\r\ncontent-length: 7\r\nconnection: close\r\n\r\nrefused",
     }];
-    assert!(rt; end_so(&rt, &rows)?);
-    Ok(())
+    end_so(&rt, &rows)
 }
 
 #[test]
@@ -157,8 +166,7 @@ fn the_request_of_the_expect_service_is_answered(rt: HostRuntime) -> Result<(), 
             text: OK,
         },
     ];
-    assert!(rt; end_so(&rt, &rows)?);
-    Ok(())
+    end_so(&rt, &rows)
 }
 
 #[test]
@@ -169,8 +177,7 @@ fn head_and_close_go_by_the_head_as_it_was_read(rt: HostRuntime) -> Result<(), F
         how: Some(How::Served),
         text: b"HTTP/1.1 100 Continue\r\n\r\nHTTP/1.1 200 OK\r\ncontent-length: 5\r\nconnection: close\r\n\r\n",
     }];
-    assert!(rt; end_so(&rt, &rows)?);
-    Ok(())
+    end_so(&rt, &rows)
 }
 
 // A request, and one that asks for another protocol, with bytes of that behind it.
@@ -188,8 +195,7 @@ fn an_upgrade_service_has_all_bytes_behind_its_head(rt: HostRuntime) -> Result<(
         how: Some(How::Upgraded),
         text: SWITCHED,
     }];
-    assert!(rt; end_so(&rt, &rows)?);
-    Ok(())
+    end_so(&rt, &rows)
 }
 
 #[test]
@@ -202,8 +208,7 @@ fn without_an_upgrade_service_a_request_is_plain(rt: HostRuntime) -> Result<(), 
 HTTP/1.1 200 OK\r\ncontent-length: 3\r\n\r\n/b\n\
 HTTP/1.1 400 Bad Request\r\ncontent-length: 0\r\nconnection: close\r\n\r\n",
     }];
-    assert!(rt; end_so(&rt, &rows)?);
-    Ok(())
+    end_so(&rt, &rows)
 }
 
 #[test]
@@ -214,6 +219,5 @@ fn an_upgrade_service_that_waits_hands_its_link_back(rt: HostRuntime) -> Result<
         how: None,
         text: SWITCHED,
     }];
-    assert!(rt; end_so(&rt, &rows)?);
-    Ok(())
+    end_so(&rt, &rows)
 }

@@ -13,8 +13,7 @@ fn lines_may_end_in_lf_and_values_may_have_white_space(rt: HostRuntime) -> Resul
         b"GET /a HTTP/1.1\r\nHost: \t x\t \r\n\r\n",
         b"GET /a HTTP/1.1\r\nX:\r\nX: \xa0\r\n\r\n",
     ];
-    assert!(rt; answered_alike(&rt, &rows, OK)?);
-    Ok(())
+    answered_alike(&rt, &rows, OK)
 }
 
 #[test]
@@ -32,8 +31,7 @@ fn a_request_line_has_three_parts_and_single_spaces(rt: HostRuntime) -> Result<(
         b"GET /\x7f HTTP/1.1\r\n\r\n",
         b"GET /\xc3 HTTP/1.1\r\n\r\n",
     ];
-    assert!(rt; answered_alike(&rt, &rows, BAD)?);
-    Ok(())
+    answered_alike(&rt, &rows, BAD)
 }
 
 #[test]
@@ -48,8 +46,7 @@ fn a_field_line_is_a_token_and_a_value_without_controls(rt: HostRuntime) -> Resu
         b"GET /a HTTP/1.1\r\nX: \0\r\n\r\n",
         b"GET /a HTTP/1.1\r\nX(y): z\r\n\r\n",
     ];
-    assert!(rt; answered_alike(&rt, &rows, BAD)?);
-    Ok(())
+    answered_alike(&rt, &rows, BAD)
 }
 
 #[test]
@@ -65,8 +62,7 @@ fn methods_are_case_sensitive_and_names_are_not(rt: HostRuntime) -> Result<(), F
             b"HTTP/1.1 200 OK\r\ncontent-length: 4\r\n\r\n/a\nx",
         ),
     ];
-    assert!(rt; answered(&rt, &rows)?);
-    Ok(())
+    answered(&rt, &rows)
 }
 
 #[test]
@@ -88,6 +84,5 @@ HTTP/1.1 400 Bad Request\r\ncontent-length: 0\r\nconnection: close\r\n\r\n",
 HTTP/1.1 200 OK\r\ncontent-length: 3\r\n\r\n/a\n",
         ),
     ];
-    assert!(rt; answered(&rt, &rows)?);
-    Ok(())
+    answered(&rt, &rows)
 }

@@ -19,6 +19,8 @@ mod porter;
 #[cfg(test)]
 mod serving;
 #[cfg(test)]
+mod shown;
+#[cfg(test)]
 mod switch;
 #[cfg(test)]
 mod test_link;

@@ -37,28 +37,34 @@ pub(crate) struct Porter {
     pub(crate) alloc: Global,
 }
 
-// The request for `/let` in its place, with no headers.
-fn let_in(alloc: Global, req: Request) -> Result<Request, AllocError> {
-    let target = Octets::of(alloc, b"/let")?;
-    let Request { head, body, peer } = req;
-    let head = RequestHead {
-        method: head.method,
-        target,
-        version: head.version,
-        headers: RequestHeaders::new(alloc),
-    };
-    Ok(Request { head, body, peer })
+// Makes it the head of the request for `/let`, with no headers.
+fn redirect(alloc: Global, head: &mut RequestHead) -> Result<(), AllocError> {
+    head.target = Octets::of(alloc, b"/let")?;
+    head.headers = RequestHeaders::new(alloc);
+    Ok(())
 }
 
-// What is answered to the request.
-fn answer(alloc: Global, req: Request) -> Result<Request, Refusal> {
+// Makes the request what is answered to it.
+fn let_in(alloc: Global, req: &mut Request) -> Result<(), Refusal> {
     let unwanted: &[u8] = b"/no";
     if req.head.target.as_bytes() == unwanted {
         return Err(Refusal::Unwanted);
     }
-    match let_in(alloc, req) {
-        Ok(req) => Ok(req),
+    match redirect(alloc, &mut req.head) {
+        Ok(()) => Ok(()),
         Err(_) => Err(Refusal::Memory),
+    }
+}
+
+// What is answered to the request.
+fn answer(alloc: Global, req: Request) -> Result<Request, Refusal> {
+    let mut req = req;
+    match let_in(alloc, &mut req) {
+        Ok(()) => Ok(req),
+        Err(refusal) => {
+            drop(req);
+            Err(refusal)
+        }
     }
 }
 

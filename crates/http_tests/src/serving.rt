@@ -38,33 +38,48 @@ pub(crate) fn limits() -> Limits {
     Limits::new(64, 1024)
 }
 
-// Whether the connection ended so, and this was written.
-fn is_ended(ended: &Ended<TestLink>, how: Option<How>, text: &[u8]) -> Result<bool, AllocError> {
+/// What a connection comes to.
+#[derive(Clone, Copy)]
+pub(crate) enum Wanted<'a> {
+    /// It ends so, or not at all, and wrote this.
+    Writes(Option<How>, &'a [u8]),
+    /// It took so many bytes, and wrote by so many calls.
+    Moves(usize, u64),
+}
+
+// Whether a connection that ended so, or not at all, comes to this.
+fn is_met(wanted: &Wanted<'_>, ended: Option<How>, link: &TestLink) -> bool {
+    match wanted {
+        Wanted::Writes(how, text) => ended == *how && link.is_written(text),
+        Wanted::Moves(taken, writes) => link.moved() == (*taken, *writes),
+    }
+}
+
+// The same of one that ended, where memory must have sufficed.
+fn is_ended(ended: &Ended<TestLink>, wanted: &Wanted<'_>) -> Result<bool, AllocError> {
     if ended.how == How::Memory {
         return Err(AllocError);
     }
-    Ok(Some(ended.how) == how && ended.link.is_written(text))
+    Ok(is_met(wanted, Some(ended.how), &ended.link))
 }
 
 // The same, where the service may have ended by an error.
 fn has_ended<E>(
     given: &Result<Ended<TestLink>, E>,
-    how: Option<How>,
-    text: &[u8],
+    wanted: &Wanted<'_>,
 ) -> Result<bool, AllocError> {
     match given {
-        Ok(ended) => is_ended(ended, how, text),
+        Ok(ended) => is_ended(ended, wanted),
         Err(_) => Ok(false),
     }
 }
 
-// Whether the future ends so within so many polls, or not at all, and this was written.
+// Whether the future comes to this within so many polls.
 fn polled<F, E>(
     task: &MockTask,
     mut future: F,
     polls: usize,
-    how: Option<How>,
-    text: &[u8],
+    wanted: &Wanted<'_>,
 ) -> Result<bool, AllocError>
 where
     F: Future<Output = Result<Ended<TestLink>, E>> + LinkHolder<TestLink> + Drop,
@@ -73,20 +88,19 @@ where
 {
     for _ in 0..polls {
         if let Poll::Ready(given) = task.poll(&mut future) {
-            return has_ended(&given, how, text);
+            return has_ended(&given, wanted);
         }
     }
-    Ok(how.is_none() && future.into_link().is_written(text))
+    Ok(is_met(wanted, None, &future.into_link()))
 }
 
-/// Whether these services end the link so within so many polls, or not at all, and wrote this.
+/// Whether these services bring a link over the bytes to this within so many polls.
 pub(crate) fn is_served_by<X, U>(
     task: &MockTask,
     flow: &Arc<HttpFlow<Echo, X, U>>,
     keeps_alive: bool,
-    served: (TestLink, usize),
-    how: Option<How>,
-    text: &[u8],
+    served: (&[u8], Way, usize),
+    wanted: &Wanted<'_>,
 ) -> Result<bool, AllocError>
 where
     X: Service<Request, Response = Request, Error: ErrorResponse> + Drop,
@@ -100,11 +114,16 @@ where
     requires askable { X.can_call (arc_value flow.now).expect }
     requires upgradable { MayUpgrade U.Service ⟦<TestLink as Link>⟧ U.Future.may_stand (arc_value flow.now) }
 {
-    let (link, polls) = served;
-    let peer = link.peer();
+    let (bytes, way, polls) = served;
     let alloc = flow.service.alloc;
-    let future = Dispatcher::new(alloc, flow, limits(), keeps_alive, peer, link);
-    polled(task, future, polls, how, text)
+    match TestLink::new(alloc, bytes, way) {
+        Ok(link) => {
+            let peer = link.peer();
+            let future = Dispatcher::new(alloc, flow, limits(), keeps_alive, peer, link);
+            polled(task, future, polls, wanted)
+        }
+        Err(error) => Err(error),
+    }
 }
 
 /// The services of a connection that `Echo` answers alone.
@@ -121,61 +140,26 @@ pub(crate) fn echoing(
     Ok(Arc::new(alloc, flow)?)
 }
 
-/// Whether the service of a link over these bytes ends so within so many polls, or not at all, and wrote this.
+/// Whether `Echo` alone brings a link over the bytes to this within so many polls.
+pub(crate) fn is_echoed(
+    task: &MockTask,
+    alloc: Global,
+    keeps_alive: bool,
+    served: (&[u8], Way, usize),
+    wanted: &Wanted<'_>,
+) -> Result<bool, AllocError> {
+    match echoing(alloc) {
+        Ok(flow) => is_served_by(task, &flow, keeps_alive, served, wanted),
+        Err(error) => Err(error),
+    }
+}
+
+/// The same, where the connection stays behind an answer.
 pub(crate) fn is_served(
     task: &MockTask,
     alloc: Global,
     served: (&[u8], Way, usize),
-    how: Option<How>,
-    text: &[u8],
+    wanted: &Wanted<'_>,
 ) -> Result<bool, AllocError> {
-    let (bytes, way, polls) = served;
-    let link = TestLink::new(alloc, bytes, way)?;
-    is_served_by(task, &echoing(alloc)?, true, (link, polls), how, text)
-}
-
-// What was moved when the connection ended.
-fn ended_moved<E>(given: &Result<Ended<TestLink>, E>) -> Result<(usize, u64), AllocError> {
-    match given {
-        Ok(ended) => {
-            if ended.how == How::Memory {
-                Err(AllocError)
-            } else {
-                Ok(ended.link.moved())
-            }
-        }
-        Err(_) => Err(AllocError),
-    }
-}
-
-// What was moved once the future was polled so many times, or had ended.
-fn moved<F, E>(task: &MockTask, mut future: F, polls: usize) -> Result<(usize, u64), AllocError>
-where
-    F: Future<Output = Result<Ended<TestLink>, E>> + LinkHolder<TestLink> + Drop,
-    E: Drop,
-    requires { F.can_poll future }
-{
-    for _ in 0..polls {
-        if let Poll::Ready(given) = task.poll(&mut future) {
-            return ended_moved(&given);
-        }
-    }
-    Ok(future.into_link().moved())
-}
-
-/// How many bytes the service of a link over these bytes has taken behind so many polls, and by how many calls it has written.
-pub(crate) fn moved_by(
-    task: &MockTask,
-    alloc: Global,
-    bytes: &[u8],
-    polls: usize,
-) -> Result<(usize, u64), AllocError> {
-    let link = TestLink::new(alloc, bytes, Way::of(usize::MAX, false))?;
-    let peer = link.peer();
-    let flow = echoing(alloc)?;
-    moved(
-        task,
-        Dispatcher::new(alloc, &flow, limits(), true, peer, link),
-        polls,
-    )
+    is_echoed(task, alloc, true, served, wanted)
 }

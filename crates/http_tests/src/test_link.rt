@@ -29,6 +29,26 @@ impl Way {
             most_written: usize::MAX,
         }
     }
+
+    /// Reads fail once so many bytes were taken.
+    pub(crate) fn failing_reads(piece: usize, pauses: bool, most_read: usize) -> Way {
+        Way {
+            piece,
+            pauses,
+            most_read,
+            most_written: usize::MAX,
+        }
+    }
+
+    /// Writes fail once so many bytes were written.
+    pub(crate) fn failing_writes(piece: usize, pauses: bool, most_written: usize) -> Way {
+        Way {
+            piece,
+            pauses,
+            most_read: usize::MAX,
+            most_written,
+        }
+    }
 }
 
 /// Gives what it holds, and takes what is written.

@@ -1,11 +1,15 @@
 //! A connection from its bytes to its answers.
+ghost use Rattle.std.specs.Prelude.{◌≡◌, None};
+ghost use Rattle.std.specs.Arc.{arc_value};
+
 use crate::answering::{answered, answered_alike};
 use crate::echo::Echo;
-use crate::serving::{BAD, FIELDS_TOO_LARGE, OK, TOO_LARGE, echoing, is_served, moved_by};
+use crate::serving::{BAD, FIELDS_TOO_LARGE, OK, TOO_LARGE, Wanted, echoing, is_served};
+use crate::shown::holds;
 use crate::test_link::{TestLink, Way};
 use futures::task::Poll;
 use futures::test::MockTask;
-use http_flow::{ExpectHandler, UpgradeHandler};
+use http_flow::{ExpectHandler, HttpFlow, UpgradeHandler};
 use http1_dispatcher::{
     an_upgrade_ends_the_answers, answers_come_in_order, nothing_follows_a_closing_answer,
     nothing_follows_a_refusal, nothing_follows_a_refused_body,
@@ -13,6 +17,7 @@ use http1_dispatcher::{
 };
 use service_core::Octets;
 use std::alloc::{AllocError, Global};
+use std::sync::Arc;
 use std::test::Fail;
 
 const GET: &[u8] = b"GET /a HTTP/1.1\r\n\r\n";
@@ -26,8 +31,7 @@ fn a_get_is_answered_by_the_service(rt: HostRuntime) -> Result<(), Fail> {
             b"HTTP/1.1 404 Not Found\r\ncontent-length: 0\r\n\r\n",
         ),
     ];
-    assert!(rt; answered(&rt, &rows)?);
-    Ok(())
+    answered(&rt, &rows)
 }
 
 #[test]
@@ -45,8 +49,7 @@ HTTP/1.1 404 Not Found\r\ncontent-length: 0\r\n\r\n",
 HTTP/1.1 200 OK\r\ncontent-length: 3\r\n\r\n/a\n",
         ),
     ];
-    assert!(rt; answered(&rt, &rows)?);
-    Ok(())
+    answered(&rt, &rows)
 }
 
 // The answer to a request with the target `/a` and the body `hello`.
@@ -59,8 +62,7 @@ fn bodies_are_read_by_their_length(rt: HostRuntime) -> Result<(), Fail> {
         b"PUT /a HTTP/1.1\r\ncontent-length:005 \r\n\r\nhello\r\n",
         b"GET /a HTTP/1.1\nContent-Length: 5\n\nhelloGET /b HTTP/1.1\r\n",
     ];
-    assert!(rt; answered_alike(&rt, &rows, HELLO)?);
-    Ok(())
+    answered_alike(&rt, &rows, HELLO)
 }
 
 #[test]
@@ -73,8 +75,7 @@ fn bodies_are_read_in_chunks(rt: HostRuntime) -> Result<(), Fail> {
         b"POST /a HTTP/1.1\r\nTransfer-Encoding: chunked\r\n\r\n5\r\nhello\r\n0\r\nA: b\r\nC: d\r\n\r\n",
         b"POST /a HTTP/1.1\r\nTransfer-Encoding: chunked\r\n\r\n5\r\nhello\r\n0\r\nA: b\n\nGET",
     ];
-    assert!(rt; answered_alike(&rt, &rows, HELLO)?);
-    Ok(())
+    answered_alike(&rt, &rows, HELLO)
 }
 
 #[test]
@@ -93,8 +94,7 @@ fn a_head_request_and_no_content_have_no_body(rt: HostRuntime) -> Result<(), Fai
             b"HTTP/1.1 204 No Content\r\nconnection: close\r\n\r\n",
         ),
     ];
-    assert!(rt; answered(&rt, &rows)?);
-    Ok(())
+    answered(&rt, &rows)
 }
 
 // The answer to a request with the target `/a` and no body, behind which the connection closes.
@@ -108,8 +108,7 @@ fn nothing_behind_a_closing_answer_is_answered(rt: HostRuntime) -> Result<(), Fa
         b"GET /a HTTP/1.0\r\n\r\nGET /b HTTP/1.0\r\n\r\n",
         b"GET /a HTTP/1.0\r\nConnection: close, keep-alive\r\n\r\n",
     ];
-    assert!(rt; answered_alike(&rt, &rows, OK_CLOSING)?);
-    Ok(())
+    answered_alike(&rt, &rows, OK_CLOSING)
 }
 
 #[test]
@@ -119,8 +118,7 @@ fn version_1_0_stays_where_it_asks(rt: HostRuntime) -> Result<(), Fail> {
         b"HTTP/1.1 200 OK\r\ncontent-length: 3\r\nconnection: keep-alive\r\n\r\n/a\n\
 HTTP/1.1 200 OK\r\ncontent-length: 3\r\nconnection: close\r\n\r\n/a\n",
     )];
-    assert!(rt; answered(&rt, &rows)?);
-    Ok(())
+    answered(&rt, &rows)
 }
 
 #[test]
@@ -144,8 +142,7 @@ HTTP/1.1 200 OK\r\ncontent-length: 3\r\n\r\n/a\n",
             OK_CLOSING,
         ),
     ];
-    assert!(rt; answered(&rt, &rows)?);
-    Ok(())
+    answered(&rt, &rows)
 }
 
 #[test]
@@ -159,8 +156,7 @@ fn what_has_no_form_is_refused(rt: HostRuntime) -> Result<(), Fail> {
         b"POST /a HTTP/1.1\r\nTransfer-Encoding: chunked\r\n\r\n5\nhello\r\n0\r\n\r\n",
         b"POST /a HTTP/1.1\r\nTransfer-Encoding: chunked\r\n\r\n1\r\nhello\r\n0\r\n\r\n",
     ];
-    assert!(rt; answered_alike(&rt, &rows, BAD)?);
-    Ok(())
+    answered_alike(&rt, &rows, BAD)
 }
 
 #[test]
@@ -171,8 +167,7 @@ fn a_body_above_the_limit_is_refused(rt: HostRuntime) -> Result<(), Fail> {
         b"POST /a HTTP/1.1\r\nTransfer-Encoding: chunked\r\n\r\n401\r\n",
         b"POST /a HTTP/1.1\r\nTransfer-Encoding: chunked\r\n\r\n1\r\nx\r\nffffffffffffffff\r\n",
     ];
-    assert!(rt; answered_alike(&rt, &rows, TOO_LARGE)?);
-    Ok(())
+    answered_alike(&rt, &rows, TOO_LARGE)
 }
 
 #[test]
@@ -183,8 +178,7 @@ fn a_head_above_the_limit_is_refused_before_it_is_read(rt: HostRuntime) -> Resul
         b"POST /a HTTP/1.1\r\nTransfer-Encoding: chunked\r\n\r\n0\r\n\
 A: 0123456789012345678901234567890123456789012345678901234567890123456789",
     ];
-    assert!(rt; answered_alike(&rt, &rows, FIELDS_TOO_LARGE)?);
-    Ok(())
+    answered_alike(&rt, &rows, FIELDS_TOO_LARGE)
 }
 
 // So many times the text.
@@ -203,23 +197,25 @@ fn are_moved(
     served: (usize, usize),
     wanted: (usize, u64),
 ) -> Result<bool, AllocError> {
-    let bytes = repeated(alloc, GET, served.0)?;
-    Ok(moved_by(task, alloc, bytes.as_bytes(), served.1)? == wanted)
+    let way = Way::of(usize::MAX, false);
+    let wanted = Wanted::Moves(wanted.0, wanted.1);
+    match repeated(alloc, GET, served.0) {
+        Ok(bytes) => is_served(task, alloc, (bytes.as_bytes(), way, served.1), &wanted),
+        Err(error) => Err(error),
+    }
 }
 
 #[test]
 fn forty_pipelined_requests_are_answered_by_one_write(rt: HostRuntime) -> Result<(), Fail> {
     let task = MockTask::new(&rt)?;
-    assert!(rt; are_moved(&task, rt.alloc(), (40, 9), (760, 1))?);
-    Ok(())
+    holds(&rt, are_moved(&task, rt.alloc(), (40, 9), (760, 1)))
 }
 
 #[test]
 fn a_poll_takes_at_most_4096_bytes(rt: HostRuntime) -> Result<(), Fail> {
     let task = MockTask::new(&rt)?;
-    assert!(rt; are_moved(&task, rt.alloc(), (300, 1), (4096, 1))?);
-    assert!(rt; are_moved(&task, rt.alloc(), (300, 2), (5700, 2))?);
-    Ok(())
+    holds(&rt, are_moved(&task, rt.alloc(), (300, 1), (4096, 1)))?;
+    holds(&rt, are_moved(&task, rt.alloc(), (300, 2), (5700, 2)))
 }
 
 // Whether the connection waits behind so many polls, and wrote this.
@@ -229,24 +225,37 @@ fn is_waiting(
     polls: usize,
     text: &[u8],
 ) -> Result<bool, AllocError> {
-    is_served(task, alloc, (GET, Way::of(4096, false), polls), None, text)
+    let wanted = Wanted::Writes(None, text);
+    is_served(task, alloc, (GET, Way::of(4096, false), polls), &wanted)
 }
 
 #[test]
 fn a_connection_that_waits_hands_its_link_back(rt: HostRuntime) -> Result<(), Fail> {
     let task = MockTask::new(&rt)?;
-    assert!(rt; is_waiting(&task, rt.alloc(), 1, OK)?);
-    assert!(rt; is_waiting(&task, rt.alloc(), 0, b"")?);
-    Ok(())
+    holds(&rt, is_waiting(&task, rt.alloc(), 1, OK))?;
+    holds(&rt, is_waiting(&task, rt.alloc(), 0, b""))
+}
+
+// Whether the services are ready at the first poll.
+fn are_ready(task: &MockTask, flow: &Arc<HttpFlow<Echo, ExpectHandler, UpgradeHandler>>) -> bool
+    requires { (arc_value flow.now).upgrade ≡ None }
+{
+    let ready = task.enter(|cx| flow.poll_ready::<TestLink>(cx));
+    matches!(ready, Poll::Ready(Ok(())))
+}
+
+// The same of `Echo` alone.
+fn is_ready(task: &MockTask, alloc: Global) -> Result<bool, AllocError> {
+    match echoing(alloc) {
+        Ok(flow) => Ok(are_ready(task, &flow)),
+        Err(error) => Err(error),
+    }
 }
 
 #[test]
 fn it_is_ready_when_its_service_is(rt: HostRuntime) -> Result<(), Fail> {
-    let flow = echoing(rt.alloc())?;
     let task = MockTask::new(&rt)?;
-    let ready = task.enter(|cx| flow.poll_ready::<TestLink>(cx));
-    assert_eq!(rt; ready, Poll::Ready(Ok(())));
-    Ok(())
+    holds(&rt, is_ready(&task, rt.alloc()))
 }
 
 #[test]

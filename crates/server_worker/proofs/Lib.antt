@@ -2,7 +2,9 @@ pub mod Accounting
 pub mod AdmitSteps
 pub mod AskSteps
 pub mod BeginSteps
+pub mod BerthSteps
 pub mod ChangeSteps
+pub mod DueSteps
 pub mod LeaveSteps
 pub mod Lists
 pub mod MakeSteps

@@ -8,11 +8,15 @@ use Rattle.std.proofs.lemmas.List.Sums.{sum_by-take-drop, sum_by-set, sum_by-dro
 use Rattle.std.proofs.lemmas.List.Elements.{All-take, All-set, All-get_or}
 
 module _ {X : Type 0} where
-  take_take : (k n : ℕ) (xs : List X) → k ≤ n → take k (take n xs) ≡ take k xs
+  pub take_take : (k n : ℕ) (xs : List X) → k ≤ n → take k (take n xs) ≡ take k xs
   take_take zero n xs within = refl
   take_take (suc k) zero xs within = absurd (omega arith)
   take_take (suc k) (suc n) [] within = refl
   take_take (suc k) (suc n) (x ∷ xs) within = ap (λ ys. x ∷ ys) (take_take k n xs (omega arith))
+
+  -- what is the same up to a place is so up to the one before
+  pub front_less : (k : ℕ) (xs ys : List X) → take (k + 1) xs ≡ take (k + 1) ys → take k xs ≡ take k ys
+  front_less k xs ys same = sym (take_take k (k + 1) xs (omega arith)) ∙ ap (take k) same ∙ take_take k (k + 1) ys (omega arith)
 
   -- the element at a place is changed
   pub sum_from_set : (f : X → ℕ) (xs : List X) (at : ℕ) (c d : X) → at < length xs → sum_by f (drop at (set xs at d)) ≡ f d + sum_by f (drop (at + 1) xs)
@@ -36,7 +40,7 @@ module _ {X : Type 0} where
   set_twice (x ∷ xs) zero d e = refl
   set_twice (x ∷ xs) (suc at) d e = ap (λ ys. x ∷ ys) (set_twice xs at d e)
 
-  any_default : (xs : List X) (k : ℕ) (c d : X) → k < length xs → get_or xs k c ≡ get_or xs k d
+  pub any_default : (xs : List X) (k : ℕ) (c d : X) → k < length xs → get_or xs k c ≡ get_or xs k d
   any_default [] k c d inside = absurd (omega arith)
   any_default (x ∷ xs) zero c d inside = refl
   any_default (x ∷ xs) (suc k) c d inside = any_default xs k c d (omega arith)

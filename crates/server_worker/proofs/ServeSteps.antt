@@ -1,5 +1,5 @@
 -- The live connections were polled, and what ended was posted.
-use Rattle.std.proofs.Common.{◌≡◌, Bool, true, false, true≢false, ◌++◌, ◌∷◌, [], ℕ, ◌+◌, List, All, Result, take, drop, sum_by, refl, sym, ◌∙◌, ap, arith, subst}
+use Rattle.std.proofs.Common.{◌≡◌, Bool, true, false, true≢false, ◌++◌, ◌∷◌, [], ℕ, ◌+◌, List, All, Result, sum_by, refl, sym, ◌∙◌, ap, arith, subst}
 use Rattle.std.proofs.lemmas.List.Sums.{sum_by-append}
 use Rattle.std.proofs.lemmas.List.Elements.{All-nil, All-cons, All-head, All-tail}
 use Rattle.futures.specs.declared.future.Future.{Ghosts as FutureOf}
@@ -10,7 +10,8 @@ use Rattle.service_core.specs.declared.ended.Ended.{Ended}
 use Rattle.server_jobs.specs.Cards.{Card, of_note, of_parcel, of_waiting}
 use Rattle.server_worker.specs.Holding.{Accounts, of_live}
 use Rattle.server_worker.specs.Telling.{TellsNoReady, TellsReady, newly}
-use Rattle.server_worker.specs.Polled.{Admits, OwesMore, PolledFrom, PollsLive, as_it_is, handed, once_polled, queued}
+use Rattle.server_worker.specs.Due.{PolledDue, PollsDue}
+use Rattle.server_worker.specs.Polled.{Admits, OwesMore, PollsLive, as_it_is, handed, once_polled, queued}
 use Rattle.server_worker.specs.Posted.{Posts}
 use Rattle.server_worker.specs.Sound.{IsSound, IsTold, Tells}
 use Rattle.server_worker.specs.Standing.{AllMade}
@@ -32,16 +33,35 @@ all_right P (x ∷ xs) ys all = all_right P xs ys (All-tail P x (xs ++ ys) all)
 
 module _ {L E Fut : Type 0} (g : FutureOf Fut (Result (Ended L) E)) (may_stand : Fut → L → Type 0) (may_serve : ℕ → L → Ended L → Type 0) (may_leave : ℕ → L → L → Type 0)
     (may_make : ℕ → Type 0) (listeners : ℕ) (identity : L → Identity) (a m b : Connections L Fut)
-    (polled : PolledFrom g may_stand may_serve may_leave may_make listeners identity a m 0) (posts : Posts m b) where
+    (every : Bool) (news : List ℕ) (polled : PolledDue g may_stand may_serve may_leave may_make listeners identity every news a m) (posts : Posts m b) where
   -- what was kept went on the ring or is kept
   moved : (h : Card → ℕ) → sum_by (of_note identity h) (sent m.notes) + sum_by (of_note identity h) m.owed.items ≡ sum_by (of_note identity h) (sent b.notes) + sum_by (of_note identity h) b.owed.items
   moved h = omega (arith, ap (sum_by (of_note identity h)) posts.appended, ap (sum_by (of_note identity h)) posts.kept, sum_by-append (of_note identity h) (sent m.notes) posts.more, sum_by-append (of_note identity h) posts.more b.owed.items)
 
-  pub serves_polls : PollsLive identity a b
-  serves_polls = record {
+  pub serves_due : PollsDue identity news a b
+  serves_due = record {
+    admitted = [];
+    polled = polled.polled;
+    rested = polled.rested;
+    ended = polled.ended;
+    split = λ h. omega (arith, polled.split h);
+    once = λ h. rw posts.live (polled.once h);
+    waited = polled.waited;
+    unheard = polled.unheard;
+    stayed = λ f. rw posts.live (polled.stayed f);
+    came = λ h. rw (posts.parcels, posts.queue, posts.strays, polled.parcels, polled.queue, polled.strays) (omega arith);
+    told = λ h. let n = ap (λ p. sum_by (of_note identity h) (sent p)) polled.notes in omega (arith, moved h, polled.told h, n);
+  }
+
+  pub serves_polls : every ≡ true → PollsLive identity a b
+  serves_polls all = record {
     admitted = [];
     ended = polled.ended;
-    once = λ h. rw posts.live (omega (arith, polled.once h));
+    once = λ h.
+        let s : sum_by (λ (e : Card × ℕ). h e.0 (risen e.1)) polled.polled + sum_by (once_polled identity h) polled.rested ≡ sum_by (once_polled identity h) a.live.items = polled.split (λ c n. h c (risen n)) in
+        let r = ap (sum_by (once_polled identity h)) (polled.all all) in
+        let q = ap (sum_by (as_it_is identity h)) (polled.all all) in
+        rw posts.live (omega (arith, polled.once h, s, r, q));
     came = λ h. rw (posts.parcels, posts.queue, posts.strays, polled.parcels, polled.queue, polled.strays) (omega arith);
     told = λ h. let n = ap (λ p. sum_by (of_note identity h) (sent p)) polled.notes in omega (arith, moved h, polled.told h, n);
   }
@@ -57,8 +77,9 @@ module _ {L E Fut : Type 0} (g : FutureOf Fut (Result (Ended L) E)) (may_stand :
         let s = ap (λ q. sum_by (of_waiting identity h) q.items) (posts.strays ∙ polled.strays) in
         let p = ap (λ p. sum_by (of_parcel identity h) (received p)) (posts.parcels ∙ polled.parcels) in
         let l = ap (λ l. sum_by (of_live identity h) l.items) posts.live in
-        let o : sum_by (of_live identity h) (take 0 m.live.items) + (sum_by (of_live identity h) (drop 0 m.live.items) + sum_by (λ (e : Card × ℕ). h e.0) polled.ended) ≡ sum_by (of_live identity h) a.live.items = polled.once (λ c n. h c) in
-        omega (arith, moved h, polled.told h, n, q, s, p, l, o);
+        let o : sum_by (λ (e : Card × ℕ). h e.0) polled.polled + sum_by (of_live identity h) polled.rested ≡ sum_by (of_live identity h) m.live.items + sum_by (λ (e : Card × ℕ). h e.0) polled.ended = polled.once (λ c n. h c) in
+        let d : sum_by (λ (e : Card × ℕ). h e.0) polled.polled + sum_by (of_live identity h) polled.rested ≡ sum_by (of_live identity h) a.live.items = polled.split (λ c n. h c) in
+        omega (arith, moved h, polled.told h, n, q, s, p, l, o, d);
   }
 
   pub serves_no_ready : TellsNoReady a b
@@ -168,6 +189,21 @@ module _ {L Fut : Type 0} (identity : L → Identity) (b c d e : Connections L F
     once = λ h.
         let l : sum_by (once_polled identity h) d.live.items ≡ sum_by (once_polled identity h) b.live.items + sum_by (λ (k : Card). h k 1) admits.admitted = live_by (λ k n. h k (risen n)) in
         omega (arith, l, polls.once h, sum_by-append (λ (k : Card). h k 1) admits.admitted polls.admitted);
+    came = λ h. omega (arith, same_queue h, same_parcels h, polls.came h, sum_by-append h admits.admitted polls.admitted);
+    told = λ h. omega (arith, same_notes h, polls.told h);
+  }
+
+  pub turn_due : (news : List ℕ) → PollsDue identity news d e → PollsDue identity news b e
+  turn_due news polls = record {
+    admitted = admits.admitted ++ polls.admitted;
+    polled = polls.polled;
+    rested = polls.rested;
+    ended = polls.ended;
+    split = λ h. omega (arith, live_by h, polls.split h, sum_by-append (λ (k : Card). h k 0) admits.admitted polls.admitted);
+    once = polls.once;
+    waited = polls.waited;
+    unheard = polls.unheard;
+    stayed = polls.stayed;
     came = λ h. omega (arith, same_queue h, same_parcels h, polls.came h, sum_by-append h admits.admitted polls.admitted);
     told = λ h. omega (arith, same_notes h, polls.told h);
   }

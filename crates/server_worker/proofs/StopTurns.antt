@@ -9,7 +9,8 @@ use Rattle.server_jobs.specs.Cards.{Card, of_note, of_parcel, of_waiting}
 use Rattle.server_jobs.specs.declared.note.Note.{Note}
 use Rattle.server_jobs.specs.declared.note.Note.TheVariants.{Ready}
 use Rattle.server_worker.specs.Holding.{Accounts, of_live}
-use Rattle.server_worker.specs.Polled.{PollsLive, once_polled, queued}
+use Rattle.server_worker.specs.Due.{PollsDue}
+use Rattle.server_worker.specs.Polled.{PollsLive, as_it_is, once_polled, queued}
 use Rattle.server_worker.specs.Posted.{Posts}
 use Rattle.server_worker.specs.Sound.{IsSound, IsTold, Tells}
 use Rattle.server_worker.specs.Stopping.{GivesBack, GivesUp, LetsGo, Returns, of_stop, told_as}
@@ -205,6 +206,23 @@ module _ {L Fut : Type 0} (identity : L → Identity) (listeners : ℕ) (a b e :
     once = λ h.
         let l = ap (sum_by (once_polled identity h)) takes.live in
         omega (arith, polls.once h, l);
+    came = λ h. omega (arith, polls.came h, came_in h);
+    told = λ h. omega (arith, polls.told h, taken_noted (of_note identity h));
+  }
+
+  pub taken_due : (news : List ℕ) → PollsDue identity news b e → PollsDue identity news a e
+  taken_due news polls = record {
+    admitted = polls.admitted;
+    polled = polls.polled;
+    rested = polls.rested;
+    ended = polls.ended;
+    split = λ h.
+        let l = ap (sum_by (as_it_is identity h)) takes.live in
+        omega (arith, polls.split h, l);
+    once = polls.once;
+    waited = polls.waited;
+    unheard = polls.unheard;
+    stayed = polls.stayed;
     came = λ h. omega (arith, polls.came h, came_in h);
     told = λ h. omega (arith, polls.told h, taken_noted (of_note identity h));
   }

@@ -1,5 +1,6 @@
-ghost use Rattle.std.specs.Prelude.{◌≡◌, ◌+◌, ◌≤◌, ◌<◌, false, true, vec_len, vec_capacity};
+ghost use Rattle.std.specs.Prelude.{◌≡◌, ◌+◌, ◌≤◌, ◌<◌, false, true, All, take, vec_len, vec_capacity};
 ghost use Rattle.std.specs.VecDeque.{deque_len, deque_capacity};
+ghost use Rattle.server_worker.specs.Waited.{AreBerthed, HasWaited};
 
 use crate::live::Live;
 use rtrb::{Consumer, Producer};
@@ -15,7 +16,11 @@ pub(crate) struct Connections<L: Drop, Fut> {
     pub(crate) queue: VecDeque<Waiting<L>>,
     // Those of which no listener is known. They stay.
     pub(crate) strays: Vec<Waiting<L>>,
+    // Those before the place `resting` rest.
     pub(crate) live: Vec<Live<L, Fut>>,
+    pub(crate) resting: usize,
+    // By slot: the place of the one that rests and waits for it.
+    pub(crate) berths: Vec<usize>,
     // What is to be handed back.
     pub(crate) owed: VecDeque<Note<L>>,
     // A stop came.
@@ -32,4 +37,8 @@ pub(crate) struct Connections<L: Drop, Fut> {
     // So has the note that all services stand.
     ghost way_of_ready: { told ≡ false → deque_len owed + (vec_len live + (deque_len queue + vec_len strays)) < deque_capacity owed },
     ghost forces: { forced ≡ true → stopped ≡ true },
+    ghost within: { resting ≤ vec_len live },
+    // Each that rests has been polled before, and waited.
+    ghost waited: { All HasWaited (take resting live.items) },
+    ghost berthed: { AreBerthed berths.items (take resting live.items) },
 }

@@ -24,6 +24,7 @@ mod worker;
 mod worker_parts;
 
 pub use laws::a_service_changes_at_most_twice_a_turn;
+pub use live::SLOTS;
 pub use turned::Turned;
 pub use worker::Worker;
 pub use worker_parts::WorkerParts;

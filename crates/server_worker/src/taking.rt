@@ -34,6 +34,8 @@ impl<L: Link, Fut: Drop> Connections<L, Fut> {
             queue: VecDeque::new(alloc),
             strays: Vec::new(alloc),
             live: Vec::new(alloc),
+            resting: 0,
+            berths: Vec::new(alloc),
             owed,
             stopped: false,
             forced: false,

@@ -8,6 +8,7 @@ ghost use Rattle.worker_core.specs.WorkerCore.{state_of};
 ghost use Rattle.worker_core.specs.declared.worker_state.WorkerState.TheVariants as state;
 ghost use Rattle.server_worker.specs.Asking.{ChecksUpTo};
 ghost use Rattle.server_worker.specs.Changes.{HasChanged, HasYielded};
+ghost use Rattle.server_worker.specs.Due.{PollsDue};
 ghost use Rattle.server_worker.specs.Holding.{Accounts};
 ghost use Rattle.server_worker.specs.Polled.{Admits, OwesMore, PollsLive};
 ghost use Rattle.server_worker.specs.Sound.{IsSound, Tells};
@@ -133,8 +134,8 @@ impl<L: Link, F: ServerServiceFactory<L>> Worker<L, F> {
         self.total = self.hand.total();
     }
 
-    // Polls the live connections, and hands back what has ended.
-    pub(crate) fn serve_live(&mut self, cx: &mut Context<'_>)
+    // Polls the live connections that are due, or all, and hands back what has ended.
+    pub(crate) fn serve_live(&mut self, every: bool, news: &[u32], cx: &mut Context<'_>)
         requires sound { IsSound F.Factory.Service.Future.Future F.Factory.Service.Future.may_stand (F.may_serve self.old.factory) (F.may_leave self.old.factory) (F.may_make self.old.factory)
             (length self.old.services.slots.items) self.old.hand }
         ensures sound { IsSound F.Factory.Service.Future.Future F.Factory.Service.Future.may_stand (F.may_serve self.new.factory) (F.may_leave self.new.factory) (F.may_make self.new.factory)
@@ -145,7 +146,8 @@ impl<L: Link, F: ServerServiceFactory<L>> Worker<L, F> {
         ensures made { self.new.services.made ≡ self.old.services.made }
         ensures factories { self.new.services.factories ≡ self.old.services.factories }
         ensures accounts { Accounts L.identity self.old.hand self.new.hand }
-        ensures polls { PollsLive L.identity self.old.hand self.new.hand }
+        ensures polls { every ≡ true → PollsLive L.identity self.old.hand self.new.hand }
+        ensures due { PollsDue L.identity news.now self.old.hand self.new.hand }
         ensures tells { Tells (F.may_serve self.new.factory) (F.may_leave self.new.factory) (F.may_make self.new.factory) (length self.new.services.slots.items) self.old.hand self.new.hand }
         ensures no_ready { TellsNoReady self.old.hand self.new.hand }
         ensures parcels { self.new.hand.parcels ≡ self.old.hand.parcels }
@@ -158,7 +160,14 @@ impl<L: Link, F: ServerServiceFactory<L>> Worker<L, F> {
         ensures total { self.new.total ≡ vec_len self.new.hand.live + (deque_len self.new.hand.queue + vec_len self.new.hand.strays) }
         ensures kept { Keeps cx.old cx.new }
     {
-        poll_live(&self.factory, &mut self.hand, self.services.slots.len(), cx);
+        poll_live(
+            &self.factory,
+            &mut self.hand,
+            self.services.slots.len(),
+            every,
+            news,
+            cx,
+        );
         self.hand.post();
         self.total = self.hand.total();
     }
@@ -167,6 +176,8 @@ impl<L: Link, F: ServerServiceFactory<L>> Worker<L, F> {
     fn turn_on(
         &mut self,
         all: bool,
+        every: bool,
+        news: &[u32],
         cx: &mut Context<'_>,
     ) -> Turned<
         <F::Factory as ServiceFactory<L>>::Error,
@@ -186,7 +197,8 @@ impl<L: Link, F: ServerServiceFactory<L>> Worker<L, F> {
         ensures ready { TellsReady self.new.services.slots.items self.old.hand self.new.hand }
         ensures ready_told { IsGoing result → self.new.services.made ≡ true → self.new.hand.told ≡ true }
         ensures stops { (forced : Bool) (h : Card → ℕ) → told_as L.identity forced h self.new.hand ≡ told_as L.identity forced h self.old.hand }
-        ensures polls { (IsFaulted result → ⊥) → PollsLive L.identity self.old.hand self.new.hand }
+        ensures polls { (IsFaulted result → ⊥) → every ≡ true → PollsLive L.identity self.old.hand self.new.hand }
+        ensures due { (IsFaulted result → ⊥) → PollsDue L.identity news.now self.old.hand self.new.hand }
         ensures unpolled { IsFaulted result → self.new.hand.live ≡ self.old.hand.live }
         ensures checks { (IsFaulted result → ⊥) → ChecksUpTo (F.may_ready self.new.factory) self.old.services.slots.items self.old.services.core self.new.services.slots.items self.new.services.core
             (cond self.new.services.made (length self.new.services.slots.items) 0) }
@@ -210,7 +222,7 @@ impl<L: Link, F: ServerServiceFactory<L>> Worker<L, F> {
         ensures kept { Keeps cx.old cx.new }
     {
         if let Some((token, error)) = make_services(&self.factory, &mut self.services.slots, cx) {
-            self.serve_live(cx);
+            self.serve_live(every, news, cx);
             return Turned::Unstarted { token, error };
         }
         self.tell_ready();
@@ -223,7 +235,7 @@ impl<L: Link, F: ServerServiceFactory<L>> Worker<L, F> {
             };
         }
         self.admit_ready();
-        self.serve_live(cx);
+        self.serve_live(every, news, cx);
         self.come_to(all)
     }
 
@@ -302,11 +314,84 @@ impl<L: Link, F: ServerServiceFactory<L>> Worker<L, F> {
             × (made_of self.new ≡ true) × (told_of self.new ≡ true) × (stopped_of self.new ≡ false) }
         ensures kept { Keeps cx.old cx.new }
     {
+        self.turn_due(true, &[], cx)
+    }
+
+    /// The same, but that it need not poll every live connection. One rests of which the last poll told for which slot alone it waits:
+    /// it is polled where that is in the list of the slots of which there is news, and else it stays as it was. Each that was admitted in
+    /// this turn is polled, and so is each after a stop, and each where every one is to be.
+    pub fn turn_due(
+        &mut self,
+        every: bool,
+        news: &[u32],
+        cx: &mut Context<'_>,
+    ) -> Turned<
+        <F::Factory as ServiceFactory<L>>::Error,
+        <F::Factory as ServiceFactory<L>>::InitError,
+    >
+        requires works { Works F.Factory.ServiceFactory F.Factory.Future.Future F.Factory.Service.Service F.Factory.Service.Future.Future F.Factory.Service.Future.may_stand
+            (F.may_serve (factory_of self.old)) (F.may_leave (factory_of self.old)) (F.may_ready (factory_of self.old)) (F.may_init (factory_of self.old)) (F.may_make (factory_of self.old)) (services_of self.old) (hand_of self.old) }
+        ensures works { IsGoing result → Works F.Factory.ServiceFactory F.Factory.Future.Future F.Factory.Service.Service F.Factory.Service.Future.Future F.Factory.Service.Future.may_stand
+            (F.may_serve (factory_of self.new)) (F.may_leave (factory_of self.new)) (F.may_ready (factory_of self.new)) (F.may_init (factory_of self.new)) (F.may_make (factory_of self.new)) (services_of self.new) (hand_of self.new) }
+        ensures sound { IsSound F.Factory.Service.Future.Future F.Factory.Service.Future.may_stand (F.may_serve (factory_of self.new)) (F.may_leave (factory_of self.new)) (F.may_make (factory_of self.new))
+            (listeners_of self.new) (hand_of self.new) }
+        ensures factory { factory_of self.new ≡ factory_of self.old }
+        ensures listeners { listeners_of self.new ≡ listeners_of self.old }
+
+        // Each connection that came is queued, live, handed back or kept for handing back, once; and what was told is true.
+        ensures accounts { Accounts L.identity (hand_of self.old) (hand_of self.new) }
+        ensures tells { Tells (F.may_serve (factory_of self.new)) (F.may_leave (factory_of self.new)) (F.may_make (factory_of self.new)) (listeners_of self.new) (hand_of self.old) (hand_of self.new) }
+        ensures came { Receives (hand_of self.old) (hand_of self.new) }
+
+        // That all services stand is told once, and then only.
+        ensures ready { TellsReady (slots_of self.new) (hand_of self.old) (hand_of self.new) }
+        ensures ready_told { IsGoing result → stopped_of self.new ≡ false → made_of self.new ≡ true → told_of self.new ≡ true }
+
+        // Each live connection is polled once, or rests, but not after a stop that is not graceful, nor where a service could not be made
+        // anew. One that rests has waited before, so none does that was admitted; of the slot for which it waits there is no news, and it stays
+        // as it was.
+        ensures polls { forced_of self.new ≡ false → (IsFaulted result → ⊥) → every ≡ true → PollsLive L.identity (hand_of self.old) (hand_of self.new) }
+        ensures due { forced_of self.new ≡ false → (IsFaulted result → ⊥) → PollsDue L.identity news.now (hand_of self.old) (hand_of self.new) }
+        ensures unpolled { IsFaulted result → (hand_of self.new).live.items ≡ (hand_of self.old).live.items }
+
+        // After a stop those that wait are handed back as they came; after one that is not graceful the live ones are, as they stand.
+        // And else none is handed back so.
+        ensures returns { stopped_of self.new ≡ true → Returns L.identity (hand_of self.old) (hand_of self.new) }
+        ensures gives_up { forced_of self.new ≡ true → GivesUp L.identity (hand_of self.old) (hand_of self.new) }
+        ensures unforced { forced_of self.new ≡ false → (h : Card → ℕ) → told_as L.identity true h (hand_of self.new) ≡ told_as L.identity true h (hand_of self.old) }
+        ensures unstopped { stopped_of self.new ≡ false → (h : Card → ℕ) → told_as L.identity false h (hand_of self.new) ≡ told_as L.identity false h (hand_of self.old) }
+
+        // Once all services were made each is asked, once, or made anew where it erred, but not after a stop. Where one stands no more,
+        // or stands again, this poll has asked for another one. Where every one is available, no connection that has one stays in the
+        // queue; and else none is admitted.
+        ensures checks { (IsFaulted result → ⊥) → ChecksUpTo (F.may_ready (factory_of self.new)) (slots_of self.old) (core_of self.old) (slots_of self.new) (core_of self.new)
+            (cond (is_asking self.new) (listeners_of self.new) 0) }
+        ensures armed { (IsFaulted result → ⊥) → (token : ℕ) → HasChanged (core_of self.old) (core_of self.new) token → HasYielded cx.new }
+        ensures admits { IsGoing result → made_of self.new ≡ true → state_of (core_of self.new) ≡ state.Available → queue_of self.new ≡ [] }
+        ensures waits { stopped_of self.new ≡ false → (made_of self.new ≡ true → state_of (core_of self.new) ≡ state.Available → ⊥) → Queues (hand_of self.old) (hand_of self.new) }
+
+        // It goes on only where it waits for something.
+        ensures going { IsGoing result → GoesOn (slots_of self.old) (services_of self.new) (hand_of self.new) }
+        ensures emptied { result ≡ Going → known_items (parcels_of self.new) ≡ [] }
+        ensures short { result ≡ Short → 0 < length (known_items (parcels_of self.new)) }
+        ensures total { forced_of self.new ≡ false → total_of self.new ≡ held_by self.new }
+        ensures live_total { forced_of self.new ≡ true → total_of self.new ≡ vec_len (hand_of self.old).live }
+        ensures left { (b : _) → result ≡ Left b
+            → (stopped_of self.new ≡ true) × ((b ≡ true) ↔ (total_of self.new ≡ 0)) × (b ≡ false → forced_of self.new ≡ true) × (held_by self.new ≡ 0) }
+        ensures stays { IsGoing result → stopped_of self.new ≡ true → (total_of self.new ≢ 0) × (forced_of self.new ≡ false) }
+        ensures unstarted { (token : ℕ) (error : F.Factory.InitError) → result ≡ Unstarted token error
+            → (token < listeners_of self.new) × F.may_init (factory_of self.new) token error × (made_of self.new ≡ false) × (stopped_of self.new ≡ false) }
+        ensures untold { (token : ℕ) (error : F.Factory.InitError) → result ≡ Unstarted token error → told_of self.new ≡ false }
+        ensures faulted { (token : ℕ) (readiness : F.Factory.Error) (error : F.Factory.InitError) → result ≡ Faulted token readiness error
+            → (token < listeners_of self.new) × F.may_ready (factory_of self.new) token (PollReady (Err readiness)) × F.may_init (factory_of self.new) token error
+            × (made_of self.new ≡ true) × (told_of self.new ≡ true) × (stopped_of self.new ≡ false) }
+        ensures kept { Keeps cx.old cx.new }
+    {
         let all = self.hand.take(self.services.slots.len());
         if self.hand.stopped {
             return self.turn_after_stop(all, cx);
         }
-        self.turn_on(all, cx)
+        self.turn_on(all, every, news, cx)
     }
 
     // What the turn comes to, where it took `all` that was in the ring, or not.

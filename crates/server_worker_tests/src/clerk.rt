@@ -31,7 +31,7 @@ fn turn_on<S: Station, Ho: Wait + Clock>(
 {
     for _ in host.forever() {
         let before = station.total();
-        if let Some(ending) = turn_once(host, queue, station) {
+        if let Some(ending) = turn_once(host, queue, None, station) {
             return ending == Ending::Left(true);
         }
         if station.total() != before {

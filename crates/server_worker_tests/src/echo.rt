@@ -56,6 +56,10 @@ impl<L: Link> LinkHolder<L> for Echo<L> {
 
     ghost stands_by_gives = { λ wide narrow within link h. within (Ok (record { link = link; how = Served })) h };
 
+    fn waits_for(&self) -> Option<u32> {
+        self.link.as_ref()?.waits_for()
+    }
+
     fn into_link(self) -> L {
         self.link.unwrap()
     }

@@ -22,6 +22,10 @@ mod opening;
 #[cfg(test)]
 mod plan;
 #[cfg(test)]
+mod quiet_link;
+#[cfg(test)]
+mod resting_tests;
+#[cfg(test)]
 mod side;
 #[cfg(test)]
 mod station;

@@ -1,13 +1,13 @@
 //! A worker as it is turned.
 ghost use Rattle.std.specs.Prelude.{◌≡◌, IfOk, IfNone};
-ghost use Rattle.server_worker.specs.Turn.{Works};
+ghost use Rattle.server_worker.specs.Turn.{IsGoing, Works};
 ghost use Rattle.server_worker.specs.Workers.{factory_of, hand_of, services_of};
 
 use crate::plan::{Fault, Plan, Refusal};
 use futures::task::{Context, Doorbell, Poll, Queue};
 use rtrb::{Consumer, Producer};
 use server_jobs::{Note, Parcel};
-use server_run::{MemoryLink, ServerServiceFactory};
+use server_run::ServerServiceFactory;
 use server_worker::{Turned, Worker, WorkerParts};
 use service_core::{Link, ServiceFactory};
 use std::alloc::{AllocError, AllocGlobal, Global};
@@ -47,8 +47,8 @@ pub(crate) trait Station {
     // Holds of one that may be turned.
     ghost goes_on: { Self → Type 0 };
 
-    /// One turn. None, where it goes on.
-    fn turn(&mut self, cx: &mut Context<'_>) -> Option<Ending>
+    /// One turn, which polls all that is live, or what has news of one of these slots. None, where it goes on.
+    fn turn(&mut self, news: Option<&[u32]>, cx: &mut Context<'_>) -> Option<Ending>
         requires { goes_on self.old }
         ensures { IfNone result (goes_on self.new) };
 
@@ -57,6 +57,23 @@ pub(crate) trait Station {
 
     /// Whether that turn left something in the ring to it.
     fn was_short(&self) -> bool;
+}
+
+// One turn of the worker.
+fn turned<L: Link, F: ServerServiceFactory<L>>(
+    worker: &mut Worker<L, F>,
+    news: Option<&[u32]>,
+    cx: &mut Context<'_>,
+) -> Turned<<F::Factory as ServiceFactory<L>>::Error, <F::Factory as ServiceFactory<L>>::InitError>
+    requires { Works F.Factory.ServiceFactory F.Factory.Future.Future F.Factory.Service.Service F.Factory.Service.Future.Future F.Factory.Service.Future.may_stand
+        (F.may_serve (factory_of worker.old)) (F.may_leave (factory_of worker.old)) (F.may_ready (factory_of worker.old)) (F.may_init (factory_of worker.old)) (F.may_make (factory_of worker.old)) (services_of worker.old) (hand_of worker.old) }
+    ensures { IsGoing result → Works F.Factory.ServiceFactory F.Factory.Future.Future F.Factory.Service.Service F.Factory.Service.Future.Future F.Factory.Service.Future.may_stand
+        (F.may_serve (factory_of worker.new)) (F.may_leave (factory_of worker.new)) (F.may_ready (factory_of worker.new)) (F.may_init (factory_of worker.new)) (F.may_make (factory_of worker.new)) (services_of worker.new) (hand_of worker.new) }
+{
+    match news {
+        None => worker.turn(cx),
+        Some(news) => worker.turn_due(false, news, cx),
+    }
 }
 
 /// A worker with what its last turn came to.
@@ -73,8 +90,8 @@ impl<
     ghost goes_on = { λ s. Works F.Factory.ServiceFactory F.Factory.Future.Future F.Factory.Service.Service F.Factory.Service.Future.Future F.Factory.Service.Future.may_stand
         (F.may_serve (factory_of s.worker)) (F.may_leave (factory_of s.worker)) (F.may_ready (factory_of s.worker)) (F.may_init (factory_of s.worker)) (F.may_make (factory_of s.worker)) (services_of s.worker) (hand_of s.worker) };
 
-    fn turn(&mut self, cx: &mut Context<'_>) -> Option<Ending> {
-        match self.worker.turn(cx) {
+    fn turn(&mut self, news: Option<&[u32]>, cx: &mut Context<'_>) -> Option<Ending> {
+        match turned(&mut self.worker, news, cx) {
             Turned::Going => {
                 self.short = false;
                 None
@@ -137,13 +154,13 @@ where
 }
 
 /// A worker of the plan's services, over these ends of its rings.
-pub(crate) fn opened(
+pub(crate) fn opened<L: Link>(
     alloc: Global,
-    parcels: Consumer<Parcel<MemoryLink>>,
-    notes: Producer<Note<MemoryLink>>,
+    parcels: Consumer<Parcel<L>>,
+    notes: Producer<Note<L>>,
     plan: Plan,
-) -> Result<Shift<MemoryLink, Plan>, AllocError>
-    ensures { IfOk result ⟦<Shift<MemoryLink, Plan> as Station>⟧.goes_on }
+) -> Result<Shift<L, Plan>, AllocError>
+    ensures { IfOk result ⟦<Shift<L, Plan> as Station>⟧.goes_on }
 {
     match made(alloc, parcels, notes, plan) {
         Ok(worker) => Ok(Shift {
@@ -167,6 +184,7 @@ pub(crate) fn queue_of_one<R: RandomSource + AllocGlobal>(rt: &R) -> Result<Queu
 pub(crate) fn turn_once<W: Wait, S: Station>(
     rt: &W,
     queue: &Queue,
+    news: Option<&[u32]>,
     station: &mut S,
 ) -> Option<Ending>
     requires { S.goes_on station.old }
@@ -175,7 +193,7 @@ pub(crate) fn turn_once<W: Wait, S: Station>(
     let Some(mut cx) = queue.next(rt) else {
         return Some(Ending::Shut);
     };
-    let ending = station.turn(&mut cx);
+    let ending = station.turn(news, &mut cx);
     let _: Poll<()> = cx.yield_now();
     cx.park();
     ending

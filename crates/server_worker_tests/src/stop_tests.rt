@@ -65,7 +65,7 @@ fn turned<W: Wait, S: Station>(
     requires { S.goes_on station.old }
     ensures { IfOk result (λ ending. IfNone ending (S.goes_on station.new)) }
 {
-    let ending = turn_once(rt, queue, station);
+    let ending = turn_once(rt, queue, None, station);
     if station.was_short() {
         return Err(AllocError);
     }

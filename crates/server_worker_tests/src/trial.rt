@@ -58,7 +58,7 @@ fn turn_all<W: Wait, S: Station>(
 {
     for turn in 0..trial.turns {
         prepare(trial, turn, ends, ledger)?;
-        let ending = turn_once(rt, queue, station);
+        let ending = turn_once(rt, queue, None, station);
         // (what it leaves in the ring to it found no memory)
         if station.was_short() || ends.parcels.slots() < trial.inward {
             return Err(AllocError);

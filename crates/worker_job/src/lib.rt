@@ -4,6 +4,7 @@
 mod departure;
 mod giving_up;
 mod laws;
+mod news;
 mod worker_job;
 mod working;
 

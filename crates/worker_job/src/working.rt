@@ -9,6 +9,7 @@ ghost use Rattle.worker_job.specs.declared.worker_job.WorkerJob.{WorkerJob};
 
 use crate::departure::Departure;
 use crate::giving_up::tell_fault;
+use crate::news::News;
 use futures::task::Context;
 use server_jobs::{Handed, OneTask, SeatTask, Waiter};
 use server_run::ServerServiceFactory;
@@ -58,6 +59,7 @@ fn make_turns<'a, Ho, L, F>(
     cx: Context<'a>,
     waiter: &mut Waiter<Ho>,
     worker: &mut Worker<L, F>,
+    news: News,
 ) -> Departure<
     <F::Factory as ServiceFactory<L>>::Error,
     <F::Factory as ServiceFactory<L>>::InitError,
@@ -74,9 +76,11 @@ where
     ensures signals { SaysBefore (hand_of worker.old) (hand_of worker.new) result }
 {
     let mut cx = cx;
+    let mut news = news;
     for _ in host.forever() {
         let before = worker.total();
-        match worker.turn(&mut cx) {
+        let every = !news.take(waiter);
+        match worker.turn_due(every, news.slots(), &mut cx) {
             Turned::Going | Turned::Short => {
                 cx = rest(waiter, task, cx, before, worker.total());
             }
@@ -136,13 +140,13 @@ where
         let Some(cx) = task.begin(&host) else {
             return Departure::Memory;
         };
-        return make_turns(&host, None, cx, waiter, worker);
+        return make_turns(&host, None, cx, waiter, worker, News::new(alloc));
     }
     let Some(task) = OneTask::new(alloc, waiter.number()) else {
         return Departure::Memory;
     };
     let cx = task.begin();
-    make_turns(&host, Some(&task), cx, waiter, worker)
+    make_turns(&host, Some(&task), cx, waiter, worker, News::new(alloc))
 }
 
 // Makes all turns, and hands over what the worker then has.

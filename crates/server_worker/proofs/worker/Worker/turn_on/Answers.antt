@@ -6,7 +6,7 @@ use Rattle.server_worker.specs.Standing.{AllMade}
 use Rattle.server_worker.specs.Turn.{ComesTo, IsFaulted, IsGoing}
 use Rattle.server_worker.proofs.AdmitSteps.{admits_same}
 use Rattle.server_worker.proofs.AskSteps.{checks_unmade, is_unset}
-use Rattle.server_worker.proofs.ServeSteps.{turn_accounts, turn_no_ready, turn_polls, turn_ready, turn_stops}
+use Rattle.server_worker.proofs.ServeSteps.{turn_accounts, turn_due, turn_no_ready, turn_polls, turn_ready, turn_stops}
 use Rattle.server_worker.proofs.TurnSteps.{armed_on, checks_turned, comes_going, comes_short, comes_unfaulted, fault_told, making_on, not_faulted, not_left, not_unstarted, sound_checked, tells_since, unchanged, works_served}
 use Rattle.server_worker.proofs.WorkSteps.{sound_of_many, works_made}
 use Rattle.server_worker.proofs.worker.Worker.turn_on.Goals as goal
@@ -47,8 +47,12 @@ returns-clause-stops g c forced h = turn_stops g.L.Link.identity c.args.self.now
     (subst (λ d. Admits g.L.Link.identity d c.admit_ready.new.self.hand) c.check.ensures.hand c.admit_ready.ensures.admits) forced h (c.serve_live-2.ensures.stops forced h)
 
 pub returns-clause-polls : goal.returns-clause-polls
-returns-clause-polls g c _ = turn_polls g.L.Link.identity c.args.self.now.hand c.tell_ready.new.self.hand c.admit_ready.new.self.hand c.serve_live-2.new.self.hand c.tell_ready.ensures.owes
-    (subst (λ d. Admits g.L.Link.identity d c.admit_ready.new.self.hand) c.check.ensures.hand c.admit_ready.ensures.admits) c.serve_live-2.ensures.polls
+returns-clause-polls g c _ every = turn_polls g.L.Link.identity c.args.self.now.hand c.tell_ready.new.self.hand c.admit_ready.new.self.hand c.serve_live-2.new.self.hand c.tell_ready.ensures.owes
+    (subst (λ d. Admits g.L.Link.identity d c.admit_ready.new.self.hand) c.check.ensures.hand c.admit_ready.ensures.admits) (c.serve_live-2.ensures.polls every)
+
+pub returns-clause-due : goal.returns-clause-due
+returns-clause-due g c _ = turn_due g.L.Link.identity c.args.self.now.hand c.tell_ready.new.self.hand c.admit_ready.new.self.hand c.serve_live-2.new.self.hand c.tell_ready.ensures.owes
+    (subst (λ d. Admits g.L.Link.identity d c.admit_ready.new.self.hand) c.check.ensures.hand c.admit_ready.ensures.admits) c.args.news.now c.serve_live-2.ensures.due
 
 pub make_services-requires : goal.make_services-requires
 make_services-requires g c = record { slots = c.requires.works.slots }
@@ -97,6 +101,9 @@ returns-in-Some-clause-stops g c = c.serve_live.ensures.stops
 
 pub returns-in-Some-clause-polls : goal.returns-in-Some-clause-polls
 returns-in-Some-clause-polls g c _ = c.serve_live.ensures.polls
+
+pub returns-in-Some-clause-due : goal.returns-in-Some-clause-due
+returns-in-Some-clause-due g c _ = c.serve_live.ensures.due
 
 pub returns-in-Some-clause-unpolled : goal.returns-in-Some-clause-unpolled
 returns-in-Some-clause-unpolled g c fault = absurd fault
@@ -169,6 +176,9 @@ returns-in-Some-check-clause-ready_told g c going made = absurd going
 
 pub returns-in-Some-check-clause-polls : goal.returns-in-Some-check-clause-polls
 returns-in-Some-check-clause-polls g c whole = absurd (whole tt)
+
+pub returns-in-Some-check-clause-due : goal.returns-in-Some-check-clause-due
+returns-in-Some-check-clause-due g c whole = absurd (whole tt)
 
 pub returns-in-Some-check-clause-unpolled : goal.returns-in-Some-check-clause-unpolled
 returns-in-Some-check-clause-unpolled g c _ = c.hand_back.ensures.live ∙ ap (λ h. h.live) c.check.ensures.hand ∙ c.tell_ready.ensures.owes.live

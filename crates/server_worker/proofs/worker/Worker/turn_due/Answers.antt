@@ -1,12 +1,13 @@
 use Rattle.std.proofs.Common.{◌∙◌, ap, length, refl, rules, sym, true, false, true≢false}
 use Rattle.server_worker.proofs.Accounting.{accounts_trans}
 use Rattle.server_worker.proofs.AskSteps.{checks_going, checks_stopped}
+use Rattle.server_worker.proofs.DueSteps.{due_of_all}
 use Rattle.server_worker.proofs.ServeSteps.{turn_no_ready}
-use Rattle.server_worker.proofs.StopTurns.{taken_gives_up, taken_polls, taken_ready, taken_returns, taken_tells, taken_told}
+use Rattle.server_worker.proofs.StopTurns.{taken_due, taken_gives_up, taken_polls, taken_ready, taken_returns, taken_tells, taken_told}
 use Rattle.server_worker.proofs.TakeSteps.{queues_taken, receives_taken}
 use Rattle.server_worker.proofs.TurnSteps.{comes_started, comes_stays, comes_unfaulted, comes_whole, unchanged}
 use Rattle.server_worker.proofs.WorkSteps.{works_taken}
-use Rattle.server_worker.proofs.worker.Worker.turn.Goals as goal
+use Rattle.server_worker.proofs.worker.Worker.turn_due.Goals as goal
 
 pub turn_after_stop-requires-clause-works : goal.turn_after_stop-requires-clause-works
 turn_after_stop-requires-clause-works g c = works_taken g.F.Factory.ServiceFactory g.F.Factory.Future.Future g.F.Factory.Service.Service g.F.Factory.Service.Future.Future g.F.Factory.Service.Future.LinkHolder.may_stand (g.F.ServerServiceFactory.may_serve c.args.self.now.factory) (g.F.ServerServiceFactory.may_leave c.args.self.now.factory) (g.F.ServerServiceFactory.may_ready c.args.self.now.factory) (g.F.ServerServiceFactory.may_init c.args.self.now.factory) (g.F.ServerServiceFactory.may_make c.args.self.now.factory)
@@ -29,7 +30,10 @@ pub returns-then-self-clause-ready : goal.returns-then-self-clause-ready
 returns-then-self-clause-ready g c = taken_ready g.L.Link.identity _ c.args.self.now.hand c.take-all.new.self c.turn_after_stop.new.self.hand c.take-all.ensures.accounts c.take-all.ensures.takes _ (turn_no_ready _ _ _ c.turn_after_stop.ensures.no_ready)
 
 pub returns-then-self-clause-polls : goal.returns-then-self-clause-polls
-returns-then-self-clause-polls g c unforced _ = taken_polls g.L.Link.identity _ c.args.self.now.hand c.take-all.new.self c.turn_after_stop.new.self.hand c.take-all.ensures.accounts c.take-all.ensures.takes (c.turn_after_stop.ensures.polls (sym c.turn_after_stop.ensures.forced ∙ unforced))
+returns-then-self-clause-polls g c unforced _ _ = taken_polls g.L.Link.identity _ c.args.self.now.hand c.take-all.new.self c.turn_after_stop.new.self.hand c.take-all.ensures.accounts c.take-all.ensures.takes (c.turn_after_stop.ensures.polls (sym c.turn_after_stop.ensures.forced ∙ unforced))
+
+pub returns-then-self-clause-due : goal.returns-then-self-clause-due
+returns-then-self-clause-due g c unforced _ = taken_due g.L.Link.identity _ c.args.self.now.hand c.take-all.new.self c.turn_after_stop.new.self.hand c.take-all.ensures.accounts c.take-all.ensures.takes c.args.news.now (due_of_all g.L.Link.identity c.args.news.now c.take-all.new.self c.turn_after_stop.new.self.hand (c.turn_after_stop.ensures.polls (sym c.turn_after_stop.ensures.forced ∙ unforced)))
 
 pub returns-then-self-clause-unforced : goal.returns-then-self-clause-unforced
 returns-then-self-clause-unforced g c unforced h = taken_told g.L.Link.identity _ c.args.self.now.hand c.take-all.new.self c.turn_after_stop.new.self.hand c.take-all.ensures.accounts c.take-all.ensures.takes true h (c.turn_after_stop.ensures.unforced (sym c.turn_after_stop.ensures.forced ∙ unforced) h)
@@ -62,7 +66,10 @@ pub returns-clause-ready : goal.returns-clause-ready
 returns-clause-ready g c = taken_ready g.L.Link.identity _ c.args.self.now.hand c.take-all.new.self c.turn_on.new.self.hand c.take-all.ensures.accounts c.take-all.ensures.takes _ c.turn_on.ensures.ready
 
 pub returns-clause-polls : goal.returns-clause-polls
-returns-clause-polls g c unforced whole = taken_polls g.L.Link.identity _ c.args.self.now.hand c.take-all.new.self c.turn_on.new.self.hand c.take-all.ensures.accounts c.take-all.ensures.takes (c.turn_on.ensures.polls whole)
+returns-clause-polls g c unforced whole every = taken_polls g.L.Link.identity _ c.args.self.now.hand c.take-all.new.self c.turn_on.new.self.hand c.take-all.ensures.accounts c.take-all.ensures.takes (c.turn_on.ensures.polls whole every)
+
+pub returns-clause-due : goal.returns-clause-due
+returns-clause-due g c unforced whole = taken_due g.L.Link.identity _ c.args.self.now.hand c.take-all.new.self c.turn_on.new.self.hand c.take-all.ensures.accounts c.take-all.ensures.takes c.args.news.now (c.turn_on.ensures.due whole)
 
 pub returns-clause-unforced : goal.returns-clause-unforced
 returns-clause-unforced g c unforced h = taken_told g.L.Link.identity _ c.args.self.now.hand c.take-all.new.self c.turn_on.new.self.hand c.take-all.ensures.accounts c.take-all.ensures.takes true h (c.turn_on.ensures.stops true h)

@@ -1,7 +1,0 @@
-use Rattle.std.specs.Arc.{arc_value}
-use Rattle.factory_tests.proofs.configuring.configured.Goals as goal
-
-pub built_and_copied-requires : goal.built_and_copied-requires
-built_and_copied-requires g c = record {
-  factory = λ made. (c.requires.f (arc_value made.f), c.requires.gives (arc_value made.f));
-}
