@@ -98,8 +98,8 @@ fn goes_so<W: Wait, S: Station>(
             return Ok(false);
         }
         let read = count.swap(0, SeqCst);
-        // (one for whose place memory lacked does not rest, and is read too)
-        if read > turn.reads {
+        // (what it leaves in the ring to it found no memory; one for whose berth memory lacked does not rest, and is read too)
+        if station.was_short() || read > turn.reads {
             return Err(AllocError);
         }
         if read < turn.reads {
