@@ -13,12 +13,22 @@ use std::alloc::AllocError;
 /// The most bytes that one read takes.
 const MOST_TAKEN: usize = 4096;
 
+// The most that a read takes until one took so many. A connection of small requests keeps no more room.
+const FEW: usize = 1024;
+
+// Makes the room for reads as large as it gets. It stays as it is where memory lacks.
+fn enlarge(buffer: &mut Vec<u8>) {
+    if buffer.len() < MOST_TAKEN {
+        let _ = buffer.resize(MOST_TAKEN, 0);
+    }
+}
+
 // Where a read puts its bytes, which is made for the first.
 fn prepare(buffer: &mut Vec<u8>) -> Result<(), AllocError>
     ensures { OnOk result (0 < vec_len buffer.new) }
 {
     if buffer.is_empty() {
-        *buffer = vec![in *buffer.allocator(); 0; MOST_TAKEN]?;
+        *buffer = vec![in *buffer.allocator(); 0; FEW]?;
     }
     Ok(())
 }
@@ -46,9 +56,14 @@ pub(crate) fn fill<L: Link>(
         Poll::Ready(Err(LinkFault::Failed)) => Poll::Ready(Turn::Out(Exit::Ended(How::ReadFault))),
         Poll::Ready(Err(LinkFault::Memory)) => unreachable!(),
         Poll::Ready(Ok(0)) => Poll::Ready(Turn::Out(Exit::Ended(How::Served))),
-        Poll::Ready(Ok(count)) => match reader.feed(&room[..count]) {
-            Ok(()) => Poll::Ready(Turn::On),
-            Err(_) => Poll::Ready(Turn::Out(Exit::Ended(How::Memory))),
-        },
+        Poll::Ready(Ok(count)) => {
+            if reader.feed(&room[..count]).is_err() {
+                return Poll::Ready(Turn::Out(Exit::Ended(How::Memory)));
+            }
+            if count == most {
+                enlarge(buffer);
+            }
+            Poll::Ready(Turn::On)
+        }
     }
 }

@@ -212,10 +212,11 @@ fn forty_pipelined_requests_are_answered_by_one_write(rt: HostRuntime) -> Result
 }
 
 #[test]
-fn a_poll_takes_at_most_4096_bytes(rt: HostRuntime) -> Result<(), Fail> {
+fn a_poll_takes_at_most_4096_bytes_and_the_first_1024(rt: HostRuntime) -> Result<(), Fail> {
     let task = MockTask::new(&rt)?;
-    holds(&rt, are_moved(&task, rt.alloc(), (300, 1), (4096, 1)))?;
-    holds(&rt, are_moved(&task, rt.alloc(), (300, 2), (5700, 2)))
+    holds(&rt, are_moved(&task, rt.alloc(), (300, 1), (1024, 1)))?;
+    holds(&rt, are_moved(&task, rt.alloc(), (300, 2), (5120, 2)))?;
+    holds(&rt, are_moved(&task, rt.alloc(), (300, 3), (5700, 3)))
 }
 
 // Whether the connection waits behind so many polls, and wrote this.

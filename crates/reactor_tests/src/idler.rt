@@ -11,7 +11,7 @@ use std::time::Clock;
 // So many waits of 10 ms are enough.
 const WAITS: u32 = 1_000;
 
-/// Waits until it is told to stop. It hands over whether it was, and whether it waited in the sleep of its host.
+/// Waits until it is told to stop. It hands over whether it was, and whether its first wait was a sleep, as that of its host is.
 #[derive(Drop)]
 pub(crate) struct Idler {
     pub(crate) stop: Arc<AtomicBool>,
@@ -20,7 +20,7 @@ pub(crate) struct Idler {
 // Waits until the flag is up. Whether it ever was.
 fn idle<Ho: Drop + Wait + Clock>(stop: &AtomicBool, waiter: Waiter<Ho>) -> (bool, bool) {
     let mut waiter = waiter;
-    let sleeps = waiter.sleeps();
+    let sleeps = waiter.is_tired();
     for _ in 0..WAITS {
         if stop.load(SeqCst) {
             waiter.leave();

@@ -2,15 +2,15 @@
 use crate::idler::Idler;
 use server_bind::{BindFailed, Binder};
 use server_edge::{ReactorHost, ThreadSpawner};
-use server_jobs::{SeatTask, Spawner};
+use server_jobs::Spawner;
 use server_reactor::Reactor;
 use server_run::Host;
 use server_sockets::{MioBinder, SocketBindError, SocketListener};
 use std::alloc::{AllocError, Global};
 use std::io;
+use std::sync::Arc;
 use std::sync::atomic::AtomicBool;
 use std::sync::atomic::Ordering::SeqCst;
-use std::sync::{Arc, Wait};
 use std::test::Fail;
 
 // What an idler hands over that is stopped after its starter has rested. No thread for it is want of memory.
@@ -72,27 +72,5 @@ fn a_job_sleeps_in_its_host_until_it_is_rung_for(rt: HostRuntime) -> Result<(), 
 #[test]
 fn a_job_parks_where_nothing_listens(rt: HostRuntime) -> Result<(), Fail> {
     assert!(rt; with_reactor(&rt, rt.alloc(), false)? == (true, false));
-    Ok(())
-}
-
-// The number of a seat's task, and whether it is over once its poll was ended.
-fn number_of<W: Wait>(rt: &W, alloc: Global, seat: usize) -> Result<(usize, bool), AllocError> {
-    let mut task = SeatTask::new(alloc, seat).ok_or(AllocError)?;
-    let cx = task.begin(rt).ok_or(AllocError)?;
-    let number = cx.task();
-    cx.cancel();
-    match task.begin(rt) {
-        None => Ok((number, true)),
-        Some(cx) => {
-            cx.cancel();
-            Ok((number, false))
-        }
-    }
-}
-
-#[test]
-fn a_task_has_the_number_of_its_seat(rt: HostRuntime) -> Result<(), Fail> {
-    assert!(rt; number_of(&rt, rt.alloc(), 0)? == (0, true));
-    assert!(rt; number_of(&rt, rt.alloc(), 7)? == (7, true));
     Ok(())
 }

@@ -7,3 +7,7 @@ mod idler;
 mod job_tests;
 #[cfg(test)]
 mod link_tests;
+#[cfg(test)]
+mod news_tests;
+#[cfg(test)]
+mod wire;

@@ -58,6 +58,17 @@ where
     }
 }
 
+// Whether the last turn did something. That a ring was full or has room again is nothing: a worker that takes from its ring wakes this thread.
+fn has_worked<L: Link>(acceptor: &Acceptor<L>) -> bool {
+    for event in acceptor.events().iter() {
+        match *event {
+            Event::RingFull(_) | Event::Notice(_) => {}
+            _ => return true,
+        }
+    }
+    false
+}
+
 // How the run ends, where the acceptor finished so. None says that none was: not all services stood, or there was no memory to accept the
 // first connection.
 fn end_of<L: Link>(acceptor: &Acceptor<L>, end: End) -> Option<End>
@@ -124,7 +135,7 @@ where
         let turned = acceptor.turn(cx, listeners, commands, clock, done);
         wake::<Ho, Li::Link, WorkerJob<Li::Link, F>, Sp>(acceptor, running, spawner);
         match turned {
-            AcceptTurn::Going => spawner.rest_for(rt, !acceptor.events().is_empty()),
+            AcceptTurn::Going => spawner.rest_for(rt, has_worked(acceptor)),
             AcceptTurn::WorkerEnded(w) => {
                 if !acceptor.all_ready() {
                     return None;

@@ -1,5 +1,5 @@
 use crate::names::Names;
-use futures::task::{Context, Doorbell, Poll, Solo, Source};
+use futures::task::{Context, Doorbell, Poll, Solo, Source, Waker};
 use std::alloc::Global;
 
 /// The one task of a thread that makes turns. A context of it serves for one turn or for many, and may then be asked whether
@@ -28,13 +28,11 @@ impl OneTask {
         self.solo.begin()
     }
 
-    /// Ends a poll that goes on in a later one. It tells whether the task was woken meanwhile, by the poll itself or from elsewhere,
-    /// so that a thread need not wait. It claims nothing.
-    pub fn was_woken(&self, cx: Context<'_>) -> bool {
+    /// Ends a poll that goes on in a later one, with a waker out: that is kept for the next, since a waker wakes where it is dropped. It
+    /// tells whether the task was woken meanwhile, by the poll itself or from elsewhere, so that a thread need not wait. It claims nothing.
+    pub fn was_woken(&self, cx: Context<'_>, kept: &mut Option<Waker>) -> bool {
         let mut cx = cx;
-        // A poll is ended with a waker out. It is dropped behind the look, since a waker wakes where it is dropped.
-        let mut waker = None;
-        let _: Poll<()> = cx.register(&self.source, &mut waker);
+        let _: Poll<()> = cx.register(&self.source, kept);
         cx.park();
         let Some(asleep) = self.solo.sleep() else {
             return true;

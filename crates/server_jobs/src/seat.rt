@@ -36,7 +36,7 @@ impl Seat {
     }
 
     /// The seat with this number, of a job that waits in the sleep of its host. News ends that sleep, and where the bell was rung it
-    /// wakes the thread of the starter. The number is that of the job's task.
+    /// wakes the thread of the starter.
     pub fn of_host(number: usize, bell: Arc<Bell>) -> Seat
         ensures { number_of_seat result ≡ number }
     {

@@ -131,6 +131,7 @@ impl<L: Link, F: ServerServiceFactory<L>> Worker<L, F> {
                 },
                 hand,
                 total: 0,
+                posted: false,
             }),
             Err((parcels, notes)) => Err(WorkerParts {
                 parcels,

@@ -34,11 +34,13 @@ impl<L: Link, Fut: Drop> Connections<L, Fut> {
     }
 
     #[tactic(auto, using(crate::proofs::PostSteps::posts_none, crate::proofs::PostSteps::posts_trans))]
-    // Hands back what is kept, as far as the ring has places.
-    pub(crate) fn post(&mut self)
+    // Hands back what is kept, as far as the ring has places. It tells whether that is something.
+    pub(crate) fn post(&mut self) -> bool
         ensures posts { Posts self.old self.new }
         ensures rest { (self.new.owed.items ≡ []) ⊎ (known_free self.new.notes ≤ 1) }
     {
+        let before = self.owed.len();
         while self.post_one() {}
+        self.owed.len() != before
     }
 }

@@ -34,6 +34,9 @@ use server_jobs::Note;
 use server_run::ServerServiceFactory;
 use service_core::{Link, ServiceFactory};
 
+// The number of no seat.
+const NO_SEAT: usize = usize::MAX;
+
 impl<L: Link, F: ServerServiceFactory<L>> Worker<L, F> {
     // Lets the acceptor know, once, that all services stand.
     fn tell_ready(&mut self)
@@ -90,7 +93,7 @@ impl<L: Link, F: ServerServiceFactory<L>> Worker<L, F> {
 
     #[tactic(auto, using(crate::proofs::AdmitSteps::admits_same))]
     // Admits those that wait, where every service is available.
-    fn admit_ready(&mut self)
+    fn admit_ready(&mut self, seat: usize)
         requires works { Works F.Factory.ServiceFactory F.Factory.Future.Future F.Factory.Service.Service F.Factory.Service.Future.Future F.Factory.Service.Future.may_stand
             (F.may_serve self.old.factory) (F.may_leave self.old.factory) (F.may_ready self.old.factory) (F.may_init self.old.factory) (F.may_make self.old.factory) self.old.services self.old.hand }
         ensures works { Works F.Factory.ServiceFactory F.Factory.Future.Future F.Factory.Service.Service F.Factory.Service.Future.Future F.Factory.Service.Future.may_stand
@@ -104,7 +107,7 @@ impl<L: Link, F: ServerServiceFactory<L>> Worker<L, F> {
         if !self.services.made || !self.services.core.may_admit() {
             return;
         }
-        admit(&self.factory, &self.services, &mut self.hand);
+        admit(&self.factory, &self.services, &mut self.hand, seat);
     }
 
     // Hands back what has ended before, and polls none.
@@ -130,7 +133,7 @@ impl<L: Link, F: ServerServiceFactory<L>> Worker<L, F> {
         ensures stops { (forced : Bool) (h : Card → ℕ) → told_as L.identity forced h self.new.hand ≡ told_as L.identity forced h self.old.hand }
         ensures total { self.new.total ≡ vec_len self.new.hand.live + (deque_len self.new.hand.queue + vec_len self.new.hand.strays) }
     {
-        self.hand.post();
+        self.posted = self.hand.post();
         self.total = self.hand.total();
     }
 
@@ -168,7 +171,7 @@ impl<L: Link, F: ServerServiceFactory<L>> Worker<L, F> {
             news,
             cx,
         );
-        self.hand.post();
+        self.posted = self.hand.post();
         self.total = self.hand.total();
     }
 
@@ -178,6 +181,7 @@ impl<L: Link, F: ServerServiceFactory<L>> Worker<L, F> {
         all: bool,
         every: bool,
         news: &[u32],
+        seat: usize,
         cx: &mut Context<'_>,
     ) -> Turned<
         <F::Factory as ServiceFactory<L>>::Error,
@@ -234,7 +238,7 @@ impl<L: Link, F: ServerServiceFactory<L>> Worker<L, F> {
                 error: fault.error,
             };
         }
-        self.admit_ready();
+        self.admit_ready(seat);
         self.serve_live(every, news, cx);
         self.come_to(all)
     }
@@ -314,16 +318,17 @@ impl<L: Link, F: ServerServiceFactory<L>> Worker<L, F> {
             × (made_of self.new ≡ true) × (told_of self.new ≡ true) × (stopped_of self.new ≡ false) }
         ensures kept { Keeps cx.old cx.new }
     {
-        self.turn_due(true, &[], cx)
+        self.turn_due(true, &[], NO_SEAT, cx)
     }
 
     /// The same, but that it need not poll every live connection. One rests of which the last poll told for which slot alone it waits:
     /// it is polled where that is in the list of the slots of which there is news, and else it stays as it was. Each that was admitted in
-    /// this turn is polled, and so is each after a stop, and each where every one is to be.
+    /// this turn is polled, and so is each after a stop, and each where every one is to be. The link of each is boarded with the seat.
     pub fn turn_due(
         &mut self,
         every: bool,
         news: &[u32],
+        seat: usize,
         cx: &mut Context<'_>,
     ) -> Turned<
         <F::Factory as ServiceFactory<L>>::Error,
@@ -391,7 +396,7 @@ impl<L: Link, F: ServerServiceFactory<L>> Worker<L, F> {
         if self.hand.stopped {
             return self.turn_after_stop(all, cx);
         }
-        self.turn_on(all, every, news, cx)
+        self.turn_on(all, every, news, seat, cx)
     }
 
     // What the turn comes to, where it took `all` that was in the ring, or not.

@@ -21,4 +21,13 @@ pub struct Worker<L: Link, F: ServerServiceFactory<L>> {
     // How many connections it held at the end of the last turn, queued and live; after a stop that is not graceful, how many were live
     // before that turn.
     pub(crate) total: u64,
+    // The last turn handed something back.
+    pub(crate) posted: bool,
+}
+
+impl<L: Link, F: ServerServiceFactory<L>> Worker<L, F> {
+    /// Whether the last turn handed something back over the ring. It claims nothing.
+    pub fn has_posted(&self) -> bool {
+        self.posted
+    }
 }

@@ -17,6 +17,9 @@ use std::sync::Wait;
 /// How many listeners a worker of the tests has.
 pub(crate) const LISTENERS: usize = 3;
 
+// The seat of its job.
+const SEAT: usize = 0;
+
 /// How a worker ended.
 #[derive(Clone, Copy, PartialEq, Eq)]
 pub(crate) enum Ending {
@@ -72,7 +75,7 @@ fn turned<L: Link, F: ServerServiceFactory<L>>(
 {
     match news {
         None => worker.turn(cx),
-        Some(news) => worker.turn_due(false, news, cx),
+        Some(news) => worker.turn_due(false, news, SEAT, cx),
     }
 }
 

@@ -10,8 +10,8 @@ ghost use Rattle.worker_job.specs.declared.worker_job.WorkerJob.{WorkerJob};
 use crate::departure::Departure;
 use crate::giving_up::tell_fault;
 use crate::news::News;
-use futures::task::Context;
-use server_jobs::{Handed, OneTask, SeatTask, Waiter};
+use futures::task::{Context, Waker};
+use server_jobs::{Handed, OneTask, Waiter};
 use server_run::ServerServiceFactory;
 use server_worker::{Turned, Worker};
 use service_core::{Link, Service, ServiceFactory};
@@ -19,35 +19,30 @@ use std::alloc::Global;
 use std::sync::Wait;
 use std::time::Clock;
 
-// Waits for what comes next, for a worker that held so many connections before its turn, and holds so many, and gives the context
-// of the next turn. Who started the job is woken where something may have gone to him. A worker whose connections want another
-// poll doesn't sleep: where there is a task that can tell it, it is asked before the thread would be parked.
+// Waits for what comes next behind a turn of a worker that holds so many connections, and gives the context of the next turn. Who started
+// the job is woken where the turn `moved` something. A worker whose connections want another poll doesn't sleep: its task is asked
+// before the thread would.
 fn rest<'a, Ho: Wait + Clock>(
     waiter: &mut Waiter<Ho>,
-    task: Option<&'a OneTask>,
+    task: &'a OneTask,
     cx: Context<'a>,
-    before: u64,
-    now: u64,
+    kept: &mut Option<Waker>,
+    moved: bool,
+    held: u64,
 ) -> Context<'a> {
-    let moved = now != before;
     if moved {
         waiter.stirred();
-    }
-    if moved || (now == 0 && waiter.is_roused()) {
         waiter.ring();
     }
-    let Some(task) = task else {
-        waiter.wait();
-        return cx;
-    };
-    if now == 0 || !waiter.is_tired() {
+    if held == 0 || !waiter.is_tired() {
         waiter.wait();
         return cx;
     }
-    if task.was_woken(cx) {
-        waiter.stirred();
+    if task.was_woken(cx, kept) {
+        waiter.pass();
+    } else {
+        waiter.wait();
     }
-    waiter.wait();
     task.begin()
 }
 
@@ -55,8 +50,7 @@ fn rest<'a, Ho: Wait + Clock>(
 // can't be made, for the first time or anew.
 fn make_turns<'a, Ho, L, F>(
     host: &Ho,
-    task: Option<&'a OneTask>,
-    cx: Context<'a>,
+    task: &'a OneTask,
     waiter: &mut Waiter<Ho>,
     worker: &mut Worker<L, F>,
     news: News,
@@ -75,14 +69,17 @@ where
     ensures departs { Departs F.may_ready F.may_init worker.new result }
     ensures signals { SaysBefore (hand_of worker.old) (hand_of worker.new) result }
 {
-    let mut cx = cx;
+    let mut cx = task.begin();
+    let mut kept = None;
     let mut news = news;
     for _ in host.forever() {
         let before = worker.total();
         let every = !news.take(waiter);
-        match worker.turn_due(every, news.slots(), &mut cx) {
+        match worker.turn_due(every, news.slots(), waiter.number(), &mut cx) {
             Turned::Going | Turned::Short => {
-                cx = rest(waiter, task, cx, before, worker.total());
+                let held = worker.total();
+                let moved = held != before || worker.has_posted();
+                cx = rest(waiter, task, cx, &mut kept, moved, held);
             }
             Turned::Left(_) => {
                 cx.cancel();
@@ -109,7 +106,7 @@ where
     unreachable!()
 }
 
-// Makes all turns, as one task: of the seat's number where the waiter sleeps, since there a link finds its thread by the task.
+// Makes all turns, as one task.
 fn turn_on<Ho, L, F>(
     alloc: Global,
     waiter: &mut Waiter<Ho>,
@@ -133,20 +130,10 @@ where
     let Ok(host) = waiter.host().clone() else {
         return Departure::Memory;
     };
-    if waiter.sleeps() {
-        let Some(mut task) = SeatTask::new(alloc, waiter.number()) else {
-            return Departure::Memory;
-        };
-        let Some(cx) = task.begin(&host) else {
-            return Departure::Memory;
-        };
-        return make_turns(&host, None, cx, waiter, worker, News::new(alloc));
-    }
     let Some(task) = OneTask::new(alloc, waiter.number()) else {
         return Departure::Memory;
     };
-    let cx = task.begin();
-    make_turns(&host, Some(&task), cx, waiter, worker, News::new(alloc))
+    make_turns(&host, &task, waiter, worker, News::new(alloc))
 }
 
 // Makes all turns, and hands over what the worker then has.
