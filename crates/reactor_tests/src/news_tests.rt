@@ -145,7 +145,10 @@ fn fill(task: &MockTask, link: &mut SocketLink) -> io::Result<usize> {
 fn take<C: Read>(client: &mut C, total: usize) -> io::Result<()> {
     let mut left = total;
     let mut buf = [0; 4096];
-    while left > 0 {
+    for _ in 0..total {
+        if left == 0 {
+            break;
+        }
         let count = client.read(&mut buf)?;
         if count == 0 {
             return Err(io::ErrorKind::UnexpectedEof.into());
