@@ -47,11 +47,12 @@ pub(crate) enum Wanted<'a> {
     Moves(usize, u64),
 }
 
-// Whether a connection that ended so, or not at all, comes to this.
-fn is_met(wanted: &Wanted<'_>, ended: Option<How>, link: &TestLink) -> bool {
+// Whether a connection that ended so, or not at all, comes to this. One that took less found no memory for a larger buffer.
+fn is_met(wanted: &Wanted<'_>, ended: Option<How>, link: &TestLink) -> Result<bool, AllocError> {
     match wanted {
-        Wanted::Writes(how, text) => ended == *how && link.is_written(text),
-        Wanted::Moves(taken, writes) => link.moved() == (*taken, *writes),
+        Wanted::Writes(how, text) => Ok(ended == *how && link.is_written(text)),
+        Wanted::Moves(taken, _) if link.moved().0 < *taken => Err(AllocError),
+        Wanted::Moves(taken, writes) => Ok(link.moved() == (*taken, *writes)),
     }
 }
 
@@ -60,7 +61,7 @@ fn is_ended(ended: &Ended<TestLink>, wanted: &Wanted<'_>) -> Result<bool, AllocE
     if ended.how == How::Memory {
         return Err(AllocError);
     }
-    Ok(is_met(wanted, Some(ended.how), &ended.link))
+    is_met(wanted, Some(ended.how), &ended.link)
 }
 
 // The same, where the service may have ended by an error.
@@ -91,7 +92,7 @@ where
             return has_ended(&given, wanted);
         }
     }
-    Ok(is_met(wanted, None, &future.into_link()))
+    is_met(wanted, None, &future.into_link())
 }
 
 /// Whether these services bring a link over the bytes to this within so many polls.

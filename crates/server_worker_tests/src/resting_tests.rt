@@ -152,10 +152,10 @@ fn one_that_comes_is_polled_without_news(rt: HostRuntime) -> Result<(), Fail> {
 #[test]
 fn of_two_with_one_slot_one_alone_rests(rt: HostRuntime) -> Result<(), Fail> {
     let turns = [
-        all(&[(7, 1), (7, 10)], 11),
-        told(&[], 10),
-        told(&[], 10),
-        told(&[7], 11),
+        all(&[(7, 1), (7, 1)], 2),
+        told(&[], 1),
+        told(&[], 1),
+        told(&[7], 2),
     ];
     assert!(rt; reads_so(&rt, &turns)?);
     Ok(())
